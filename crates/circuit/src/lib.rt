@@ -1,0 +1,324 @@
+// The words of document 01: point code and circuit number, a circuit's record, signals, commands, timers and events, what an
+// event answers, and what a row of a printed table means. No rule of the gateway stands here: those are in `signals`, `commands` and `step`.
+ghost use mathlib.Core.Path.{_≡_};
+ghost use mathlib.Core.Bool.{_&&_, _||_};
+ghost use mathlib.Core.List.{[], _∷_};
+ghost use Rattle.circuit.specs.Records.{to, setFar, setBla, setUba, block, unblock, restarted, flagsAllowed, onlyFar, valid};
+ghost use Rattle.circuit.specs.Rows.{fits, done, orElse, first, discarded, refused};
+
+// A point code (0..16383) and a circuit number (CIC, 0..4095) are separate things: one never stands for the other.
+pub struct PointCode(pub u16);
+
+pub struct Cic(pub u16);
+
+// A circuit's record: the state by its number, and the flags 1 own block, 2 far block, 4 awaiting BLA, 8 awaiting UBA.
+pub struct Record {
+    pub state: u8,
+    pub own: bool,
+    pub far: bool,
+    pub bla: bool,
+    pub uba: bool,
+}
+
+// The signals of an unsuccessful call.
+pub enum Failure {
+    Sec,
+    Cgc,
+    Nnc,
+    Adi,
+    Cfl,
+    Ssb,
+    Unn,
+    Los,
+    Sst,
+}
+
+// A signal with its particulars: ACM has an octet, and the failures share a case.
+pub enum Signal {
+    Iam,
+    Acm(u8),
+    Anc,
+    Ann,
+    Cbk,
+    Clf,
+    Ran,
+    Rlg,
+    Blo,
+    Bla,
+    Ubl,
+    Uba,
+    Rsc,
+    Fail(Failure),
+}
+
+// The type of address complete that the two lowest bits of its octet name, in their order (Q.723).
+pub enum AddressType {
+    Plain,
+    Charge,
+    NoCharge,
+    Payphone,
+}
+
+pub enum Charging {
+    Charged,
+    Free,
+}
+
+// A command with its detail: address complete says its type and whether the subscriber is free, an answer whether it is charged.
+pub enum Command {
+    Seize,
+    Release,
+    AddressComplete(AddressType, bool),
+    Answer(Charging),
+    ClearBack,
+    ReAnswer,
+    FailCall(Failure),
+    Block,
+    Unblock,
+    Restart,
+}
+
+pub enum Timer {
+    AddressWait,
+    AnswerWait,
+    IncomingHangUp,
+    Repeat,
+    OneMinute,
+    BlockRepeat,
+}
+
+// An event is a signal, a command or a timer, each with its own particulars.
+pub enum Event {
+    Arrives(Signal),
+    Ordered(Command),
+    RunsOut(Timer),
+}
+
+// What an event sends: at most two signals, in order.
+pub enum Sends {
+    Nothing,
+    One(Signal),
+    Two(Signal, Signal),
+}
+
+// What an event answers: the refusal's number, 0 where there is none; the record after it; the signals; the indication.
+pub struct Outcome {
+    pub refusal: u8,
+    pub after: Record,
+    pub sends: Sends,
+    pub ind: u8,
+}
+
+// A row of a printed table: its first and its last state, its further condition; what is sent, the new record, the indication.
+pub struct Row(pub u8, pub u8, pub bool, pub Sends, pub Record, pub u8);
+
+pub fn both(a: bool, b: bool) -> bool
+    ensures { λ r. ⌜ r ≡ (a && b) ⌝ }
+{
+    if a { b } else { false }
+}
+
+pub fn either(a: bool, b: bool) -> bool
+    ensures { λ r. ⌜ r ≡ (a || b) ⌝ }
+{
+    if a { true } else { b }
+}
+
+// The record in another state, its flags kept.
+pub fn to(rec: Record, state: u8) -> Record
+    ensures { λ r. ⌜ r ≡ to rec state ⌝ }
+{
+    Record {
+        state: state,
+        own: rec.own,
+        far: rec.far,
+        bla: rec.bla,
+        uba: rec.uba,
+    }
+}
+
+// The record with flag 2, 4 or 8 set or cleared.
+pub fn set_far(rec: Record, on: bool) -> Record
+    ensures { λ r. ⌜ r ≡ setFar rec on ⌝ }
+{
+    Record {
+        state: rec.state,
+        own: rec.own,
+        far: on,
+        bla: rec.bla,
+        uba: rec.uba,
+    }
+}
+
+pub fn set_bla(rec: Record, on: bool) -> Record
+    ensures { λ r. ⌜ r ≡ setBla rec on ⌝ }
+{
+    Record {
+        state: rec.state,
+        own: rec.own,
+        far: rec.far,
+        bla: on,
+        uba: rec.uba,
+    }
+}
+
+pub fn set_uba(rec: Record, on: bool) -> Record
+    ensures { λ r. ⌜ r ≡ setUba rec on ⌝ }
+{
+    Record {
+        state: rec.state,
+        own: rec.own,
+        far: rec.far,
+        bla: rec.bla,
+        uba: on,
+    }
+}
+
+// The record once we block or unblock the circuit, and after a restart.
+pub fn block(rec: Record) -> Record
+    ensures { λ r. ⌜ r ≡ block rec ⌝ }
+{
+    Record {
+        state: rec.state,
+        own: true,
+        far: rec.far,
+        bla: true,
+        uba: false,
+    }
+}
+
+pub fn unblock(rec: Record) -> Record
+    ensures { λ r. ⌜ r ≡ unblock rec ⌝ }
+{
+    Record {
+        state: rec.state,
+        own: false,
+        far: rec.far,
+        bla: false,
+        uba: true,
+    }
+}
+
+pub fn restarted() -> Record
+    ensures { λ r. ⌜ r ≡ restarted ⌝ }
+{
+    Record {
+        state: 12,
+        own: false,
+        far: false,
+        bla: false,
+        uba: false,
+    }
+}
+
+fn flags_allowed(rec: Record) -> bool
+    ensures { λ r. ⌜ r ≡ flagsAllowed rec ⌝ }
+{
+    both(
+        either(!rec.bla, rec.own),
+        both(either(!rec.uba, !rec.own), !both(rec.bla, rec.uba)),
+    )
+}
+
+fn only_far(rec: Record) -> bool
+    ensures { λ r. ⌜ r ≡ onlyFar rec ⌝ }
+{
+    both(!rec.own, both(!rec.bla, !rec.uba))
+}
+
+// Whether document 01 allows the record: refusal 12 is for the others.
+pub fn valid(rec: Record) -> bool
+    ensures { λ r. ⌜ r ≡ valid rec ⌝ }
+{
+    both(
+        rec.state <= 12,
+        both(flags_allowed(rec), either(rec.state < 12, only_far(rec))),
+    )
+}
+
+// A pair that is not in the table of signals changes and sends nothing, indication 7.
+pub fn discarded(rec: Record) -> Outcome
+    ensures { λ r. ⌜ r ≡ discarded rec ⌝ }
+{
+    Outcome {
+        refusal: 0,
+        after: rec,
+        sends: Sends::Nothing,
+        ind: 7,
+    }
+}
+
+// A refusal keeps the record, sends nothing and gives indication 0.
+pub fn refused(n: u8, rec: Record) -> Outcome
+    ensures { λ r. ⌜ r ≡ refused n rec ⌝ }
+{
+    Outcome {
+        refusal: n,
+        after: rec,
+        sends: Sends::Nothing,
+        ind: 0,
+    }
+}
+
+fn fits(s: u8, w: Row) -> bool
+    ensures { λ r. ⌜ r ≡ fits s w ⌝ }
+{
+    both(both(w.0 <= s, s <= w.1), w.2)
+}
+
+fn done(w: Row) -> Outcome
+    ensures { λ r. ⌜ r ≡ done w ⌝ }
+{
+    let sends = w.3;
+    let after = w.4;
+    Outcome {
+        refusal: 0,
+        after: after,
+        sends: sends,
+        ind: w.5,
+    }
+}
+
+// The row's answer where it fits the state, else the other answer.
+fn or_else(s: u8, w: Row, other: Outcome) -> Outcome
+    ensures { λ r. ⌜ r ≡ orElse s w other ⌝ }
+{
+    if fits(s, w) { done(w) } else { other }
+}
+
+// The first of some rows that fits, and `other` where none does.
+pub fn rows1(s: u8, w1: Row, other: Outcome) -> Outcome
+    ensures { λ r. ⌜ r ≡ first s (w1 ∷ []) other ⌝ }
+{
+    or_else(s, w1, other)
+}
+
+pub fn rows2(s: u8, w1: Row, w2: Row, other: Outcome) -> Outcome
+    ensures { λ r. ⌜ r ≡ first s (w1 ∷ w2 ∷ []) other ⌝ }
+{
+    or_else(s, w1, rows1(s, w2, other))
+}
+
+pub fn rows3(s: u8, w1: Row, w2: Row, w3: Row, other: Outcome) -> Outcome
+    ensures { λ r. ⌜ r ≡ first s (w1 ∷ w2 ∷ w3 ∷ []) other ⌝ }
+{
+    or_else(s, w1, rows2(s, w2, w3, other))
+}
+
+pub fn rows4(s: u8, w1: Row, w2: Row, w3: Row, w4: Row, other: Outcome) -> Outcome
+    ensures { λ r. ⌜ r ≡ first s (w1 ∷ w2 ∷ w3 ∷ w4 ∷ []) other ⌝ }
+{
+    or_else(s, w1, rows3(s, w2, w3, w4, other))
+}
+
+pub fn rows5(s: u8, w1: Row, w2: Row, w3: Row, w4: Row, w5: Row, other: Outcome) -> Outcome
+    ensures { λ r. ⌜ r ≡ first s (w1 ∷ w2 ∷ w3 ∷ w4 ∷ w5 ∷ []) other ⌝ }
+{
+    or_else(s, w1, rows4(s, w2, w3, w4, w5, other))
+}
+
+pub fn rows6(s: u8, w1: Row, w2: Row, w3: Row, w4: Row, w5: Row, w6: Row, other: Outcome) -> Outcome
+    ensures { λ r. ⌜ r ≡ first s (w1 ∷ w2 ∷ w3 ∷ w4 ∷ w5 ∷ w6 ∷ []) other ⌝ }
+{
+    or_else(s, w1, rows5(s, w2, w3, w4, w5, w6, other))
+}
