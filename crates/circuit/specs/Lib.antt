@@ -1,3 +1,4 @@
 pub mod Records
+pub mod Groups
 pub mod Rows
 pub mod Every

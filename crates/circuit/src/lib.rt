@@ -4,12 +4,14 @@ ghost use mathlib.Core.Path.{_≡_};
 ghost use mathlib.Core.Bool.{_&&_, _||_};
 ghost use mathlib.Core.List.{[], _∷_};
 ghost use Rattle.circuit.specs.Records.{to, setFar, setBla, setUba, block, unblock, restarted, flagsAllowed, onlyFar, valid};
+ghost use Rattle.circuit.specs.Groups.{badCode, badGroup, controls};
 ghost use Rattle.circuit.specs.Rows.{fits, done, orElse, first, discarded, refused};
 
-// A point code (0..16383) and a circuit number (CIC, 0..4095) are separate things: one never stands for the other.
-pub struct PointCode(pub u16);
+// A point code (0..16383) and a circuit number (CIC, 0..4095) are separate things: one never stands for the other. Each holds any 32-bit
+// number, so that a number which is out of range arrives here as it is and is refused.
+pub struct PointCode(pub u32);
 
-pub struct Cic(pub u16);
+pub struct Cic(pub u32);
 
 // A circuit's record: the state by its number, and the flags 1 own block, 2 far block, 4 awaiting BLA, 8 awaiting UBA.
 pub struct Record {
@@ -122,6 +124,33 @@ pub fn either(a: bool, b: bool) -> bool
     ensures { λ r. ⌜ r ≡ (a || b) ⌝ }
 {
     if a { true } else { b }
+}
+
+fn bad_code(code: PointCode) -> bool
+    ensures { λ r. ⌜ r ≡ badCode (code .0) ⌝ }
+{
+    16383 < code.0
+}
+
+// Whether a group is refused 1: by its codes, or by its number of records.
+pub fn bad_group(own: PointCode, far: PointCode, records: usize) -> bool
+    ensures { λ r. ⌜ r ≡ badGroup (own .0) (far .0) records ⌝ }
+{
+    either(
+        either(either(bad_code(own), bad_code(far)), own.0 == far.0),
+        either(records == 0, 4096 < records),
+    )
+}
+
+// Whether the end with the code `own` controls the circuit (Q.724, 2.5).
+pub fn controls(own: PointCode, far: PointCode, cic: Cic) -> bool
+    ensures { λ r. ⌜ r ≡ controls (own .0) (far .0) (cic .0) ⌝ }
+{
+    if far.0 < own.0 {
+        cic.0 % 2 == 0
+    } else {
+        cic.0 % 2 == 1
+    }
 }
 
 // The record in another state, its flags kept.

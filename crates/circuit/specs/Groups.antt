@@ -1,0 +1,38 @@
+-- A group (document 01, "Group, records, numbers"): which are refused 1, and which end controls a circuit.
+-- Assumes nothing.
+use mathlib.Core.Path.{_≡_, refl}
+use mathlib.Core.Bool.{Bool, true, false, not, cond, _||_}
+use Prim.Native.Nat.{ℕ, zero, suc, _%_, _<_, _≤_}
+use native.Mathlib.Omega.{arith}
+use lib.Dec.{eqb, ltb}
+use borrow.Author.Tests.{ltb-true, ltb-false, lt-ltb, le-ltb}
+
+-- a point code is 0..16383
+abbrev pub badCode : ℕ → Bool
+badCode code = ltb 16383 code
+
+-- refusal 1: a point code above 16383, codes equal, or 0 or more than 4096 records
+abbrev pub badGroup : ℕ → ℕ → ℕ → Bool
+badGroup own far records = badCode own || badCode far || eqb own far || (eqb records 0 || ltb 4096 records)
+
+-- the exchange with the higher point code is controlling for even circuits, the other for odd ones (Q.724, 2.5)
+abbrev pub controls : ℕ → ℕ → ℕ → Bool
+controls own far cic = eqb (cic % 2) (cond (ltb far own) 0 1)
+
+parity : (m : ℕ) → m < 2 → eqb m 1 ≡ not (eqb m 0)
+parity zero h = refl
+parity (suc zero) h = refl
+parity (suc (suc m)) h = absurd (omega arith)
+
+parity' : (m : ℕ) → m < 2 → eqb m 0 ≡ not (eqb m 1)
+parity' zero h = refl
+parity' (suc zero) h = refl
+parity' (suc (suc m)) h = absurd (omega arith)
+
+-- of two different codes exactly one controls, whatever the circuit
+pub oneControls : (own far cic : ℕ) → (own ≡ far → ⊥) → controls far own cic ≡ not (controls own far cic)
+oneControls own far cic different = go (ltb far own) refl
+  where
+    go : (higher : Bool) → ltb far own ≡ higher → controls far own cic ≡ not (controls own far cic)
+    go true e = let h : far < own = ltb-true _ _ e in simp (e, le-ltb own far (omega arith)) (parity (cic % 2) (omega arith))
+    go false e = let h : own ≤ far = ltb-false _ _ e in simp (e, lt-ltb own far (omega arith)) (parity' (cic % 2) (omega arith))
