@@ -1,0 +1,240 @@
+// What an arriving signal does to a circuit: document 01's first table, a function for each signal, its rows in the printed order.
+use circuit::Failure;
+use circuit::Outcome;
+use circuit::Record;
+use circuit::Row;
+use circuit::Sends;
+use circuit::Sends::Nothing;
+use circuit::Sends::One;
+use circuit::Sends::Two;
+use circuit::Signal;
+use circuit::Signal::Bla;
+use circuit::Signal::Blo;
+use circuit::Signal::Clf;
+use circuit::Signal::Rlg;
+use circuit::Signal::Uba;
+use circuit::discarded;
+use circuit::set_bla;
+use circuit::set_far;
+use circuit::set_uba;
+use circuit::to;
+ghost use mathlib.Core.Path.{_≡_};
+ghost use Rattle.signals.specs.Table.{reset, bloFirst, rscRow, onSignal};
+
+fn on_iam(con: bool, rec: Record) -> Outcome
+    ensures { λ r. ⌜ r ≡ onSignal con rec Signal.Iam ⌝ }
+{
+    circuit::rows4(
+        rec.state,
+        Row(0, 0, !rec.own, Nothing, to(rec, 6), 1),
+        Row(0, 0, rec.own, One(Blo), set_bla(to(rec, 0), true), 7),
+        Row(1, 1, !con, Nothing, to(rec, 6), 9),
+        Row(5, 5, !con, Nothing, to(rec, 6), 1),
+        discarded(rec),
+    )
+}
+
+fn on_acm(con: bool, rec: Record, octet: u8) -> Outcome
+    ensures { λ r. ⌜ r ≡ onSignal con rec (Signal.Acm octet) ⌝ }
+{
+    circuit::rows1(
+        rec.state,
+        Row(1, 1, true, Nothing, to(rec, 2), 2),
+        discarded(rec),
+    )
+}
+
+fn on_anc(con: bool, rec: Record) -> Outcome
+    ensures { λ r. ⌜ r ≡ onSignal con rec Signal.Anc ⌝ }
+{
+    circuit::rows1(
+        rec.state,
+        Row(2, 2, true, Nothing, to(rec, 3), 3),
+        discarded(rec),
+    )
+}
+
+fn on_ann(con: bool, rec: Record) -> Outcome
+    ensures { λ r. ⌜ r ≡ onSignal con rec Signal.Ann ⌝ }
+{
+    circuit::rows1(
+        rec.state,
+        Row(2, 2, true, Nothing, to(rec, 3), 3),
+        discarded(rec),
+    )
+}
+
+fn on_cbk(con: bool, rec: Record) -> Outcome
+    ensures { λ r. ⌜ r ≡ onSignal con rec Signal.Cbk ⌝ }
+{
+    circuit::rows1(
+        rec.state,
+        Row(3, 3, true, Nothing, to(rec, 4), 4),
+        discarded(rec),
+    )
+}
+
+fn on_ran(con: bool, rec: Record) -> Outcome
+    ensures { λ r. ⌜ r ≡ onSignal con rec Signal.Ran ⌝ }
+{
+    circuit::rows1(
+        rec.state,
+        Row(4, 4, true, Nothing, to(rec, 3), 3),
+        discarded(rec),
+    )
+}
+
+fn on_fail(con: bool, rec: Record, f: Failure) -> Outcome
+    ensures { λ r. ⌜ r ≡ onSignal con rec (Signal.Fail f) ⌝ }
+{
+    circuit::rows1(
+        rec.state,
+        Row(1, 4, true, One(Clf), to(rec, 5), 10),
+        discarded(rec),
+    )
+}
+
+fn on_clf(con: bool, rec: Record) -> Outcome
+    ensures { λ r. ⌜ r ≡ onSignal con rec Signal.Clf ⌝ }
+{
+    let idle = to(rec, 0);
+    circuit::rows5(
+        rec.state,
+        Row(0, 0, true, One(Rlg), idle, 0),
+        Row(1, 1, !con, One(Rlg), idle, 6),
+        Row(5, 5, !con, One(Rlg), idle, 5),
+        Row(6, 11, true, One(Rlg), idle, 5),
+        Row(12, 12, true, One(Rlg), idle, 5),
+        discarded(rec),
+    )
+}
+
+fn on_rlg(con: bool, rec: Record) -> Outcome
+    ensures { λ r. ⌜ r ≡ onSignal con rec Signal.Rlg ⌝ }
+{
+    let idle = to(rec, 0);
+    circuit::rows2(
+        rec.state,
+        Row(5, 5, true, Nothing, idle, 5),
+        Row(12, 12, true, Nothing, idle, 5),
+        discarded(rec),
+    )
+}
+
+// RSC, before its row, clears flag 2 and, with own block, sends BLO and sets 4.
+fn reset(rec: Record) -> Record
+    ensures { λ r. ⌜ r ≡ reset rec ⌝ }
+{
+    Record {
+        state: rec.state,
+        own: rec.own,
+        far: false,
+        bla: circuit::either(rec.own, rec.bla),
+        uba: rec.uba,
+    }
+}
+
+fn blo_first(own: bool, sends: Sends) -> Sends
+    ensures { λ r. ⌜ r ≡ bloFirst own sends ⌝ }
+{
+    if own {
+        match sends {
+            Sends::Nothing => One(Blo),
+            Sends::One(s) => Two(Blo, s),
+            Sends::Two(_, _) => sends,
+        }
+    } else {
+        sends
+    }
+}
+
+fn rsc_row(rec: Record, low: u8, high: u8, sends: Sends, new: u8, ind: u8) -> Row
+    ensures { λ r. ⌜ r ≡ rscRow rec low high sends new ind ⌝ }
+{
+    Row(
+        low,
+        high,
+        true,
+        blo_first(rec.own, sends),
+        to(reset(rec), new),
+        ind,
+    )
+}
+
+fn on_rsc(con: bool, rec: Record) -> Outcome
+    ensures { λ r. ⌜ r ≡ onSignal con rec Signal.Rsc ⌝ }
+{
+    circuit::rows6(
+        rec.state,
+        rsc_row(rec, 0, 0, One(Rlg), 0, 0),
+        rsc_row(rec, 1, 1, One(Clf), 5, 6),
+        rsc_row(rec, 2, 4, One(Clf), 5, 10),
+        rsc_row(rec, 5, 5, Nothing, 5, 7),
+        rsc_row(rec, 6, 11, One(Rlg), 0, 5),
+        rsc_row(rec, 12, 12, One(Rlg), 12, 0),
+        discarded(rec),
+    )
+}
+
+fn on_blo(con: bool, rec: Record) -> Outcome
+    ensures { λ r. ⌜ r ≡ onSignal con rec Signal.Blo ⌝ }
+{
+    circuit::rows2(
+        rec.state,
+        Row(1, 1, true, Two(Bla, Clf), set_far(to(rec, 5), true), 6),
+        Row(0, 12, true, One(Bla), set_far(rec, true), 0),
+        discarded(rec),
+    )
+}
+
+fn on_ubl(con: bool, rec: Record) -> Outcome
+    ensures { λ r. ⌜ r ≡ onSignal con rec Signal.Ubl ⌝ }
+{
+    circuit::rows1(
+        rec.state,
+        Row(0, 12, true, One(Uba), set_far(rec, false), 0),
+        discarded(rec),
+    )
+}
+
+fn on_bla(con: bool, rec: Record) -> Outcome
+    ensures { λ r. ⌜ r ≡ onSignal con rec Signal.Bla ⌝ }
+{
+    circuit::rows1(
+        rec.state,
+        Row(0, 12, rec.bla, Nothing, set_bla(rec, false), 0),
+        discarded(rec),
+    )
+}
+
+fn on_uba(con: bool, rec: Record) -> Outcome
+    ensures { λ r. ⌜ r ≡ onSignal con rec Signal.Uba ⌝ }
+{
+    circuit::rows1(
+        rec.state,
+        Row(0, 12, rec.uba, Nothing, set_uba(rec, false), 0),
+        discarded(rec),
+    )
+}
+
+// What a signal that arrives does, at the end that controls the circuit (con) or at the other.
+pub fn on_signal(con: bool, rec: Record, sig: Signal) -> Outcome
+    ensures { λ r. ⌜ r ≡ onSignal con rec sig ⌝ }
+{
+    match sig {
+        Signal::Iam => on_iam(con, rec),
+        Signal::Acm(octet) => on_acm(con, rec, octet),
+        Signal::Anc => on_anc(con, rec),
+        Signal::Ann => on_ann(con, rec),
+        Signal::Cbk => on_cbk(con, rec),
+        Signal::Clf => on_clf(con, rec),
+        Signal::Ran => on_ran(con, rec),
+        Signal::Rlg => on_rlg(con, rec),
+        Signal::Blo => on_blo(con, rec),
+        Signal::Bla => on_bla(con, rec),
+        Signal::Ubl => on_ubl(con, rec),
+        Signal::Uba => on_uba(con, rec),
+        Signal::Rsc => on_rsc(con, rec),
+        Signal::Fail(f) => on_fail(con, rec, f),
+    }
+}
