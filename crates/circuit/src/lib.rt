@@ -3,9 +3,9 @@
 ghost use mathlib.Core.Path.{_≡_};
 ghost use mathlib.Core.Bool.{_&&_, _||_};
 ghost use mathlib.Core.List.{[], _∷_};
-ghost use Rattle.circuit.specs.Records.{to, setFar, setBla, setUba, block, unblock, restarted, flagsAllowed, onlyFar, valid};
+ghost use Rattle.circuit.specs.Records.{flagsAllowed, onlyFar, valid};
 ghost use Rattle.circuit.specs.Groups.{badCode, badGroup, controls};
-ghost use Rattle.circuit.specs.Rows.{fits, done, orElse, first, discarded, refused};
+ghost use Rattle.circuit.specs.Rows.{fits, done, orElse, first, otherwise, refused};
 
 // A point code (0..16383) and a circuit number (CIC, 0..4095) are separate things: one never stands for the other. Each holds any 32-bit
 // number, so that a number which is out of range arrives here as it is and is refused.
@@ -153,93 +153,6 @@ pub fn controls(own: PointCode, far: PointCode, cic: Cic) -> bool
     }
 }
 
-// The record in another state, its flags kept.
-pub fn to(rec: Record, state: u8) -> Record
-    ensures { λ r. ⌜ r ≡ to rec state ⌝ }
-{
-    Record {
-        state: state,
-        own: rec.own,
-        far: rec.far,
-        bla: rec.bla,
-        uba: rec.uba,
-    }
-}
-
-// The record with flag 2, 4 or 8 set or cleared.
-pub fn set_far(rec: Record, on: bool) -> Record
-    ensures { λ r. ⌜ r ≡ setFar rec on ⌝ }
-{
-    Record {
-        state: rec.state,
-        own: rec.own,
-        far: on,
-        bla: rec.bla,
-        uba: rec.uba,
-    }
-}
-
-pub fn set_bla(rec: Record, on: bool) -> Record
-    ensures { λ r. ⌜ r ≡ setBla rec on ⌝ }
-{
-    Record {
-        state: rec.state,
-        own: rec.own,
-        far: rec.far,
-        bla: on,
-        uba: rec.uba,
-    }
-}
-
-pub fn set_uba(rec: Record, on: bool) -> Record
-    ensures { λ r. ⌜ r ≡ setUba rec on ⌝ }
-{
-    Record {
-        state: rec.state,
-        own: rec.own,
-        far: rec.far,
-        bla: rec.bla,
-        uba: on,
-    }
-}
-
-// The record once we block or unblock the circuit, and after a restart.
-pub fn block(rec: Record) -> Record
-    ensures { λ r. ⌜ r ≡ block rec ⌝ }
-{
-    Record {
-        state: rec.state,
-        own: true,
-        far: rec.far,
-        bla: true,
-        uba: false,
-    }
-}
-
-pub fn unblock(rec: Record) -> Record
-    ensures { λ r. ⌜ r ≡ unblock rec ⌝ }
-{
-    Record {
-        state: rec.state,
-        own: false,
-        far: rec.far,
-        bla: false,
-        uba: true,
-    }
-}
-
-pub fn restarted() -> Record
-    ensures { λ r. ⌜ r ≡ restarted ⌝ }
-{
-    Record {
-        state: 12,
-        own: false,
-        far: false,
-        bla: false,
-        uba: false,
-    }
-}
-
 fn flags_allowed(rec: Record) -> bool
     ensures { λ r. ⌜ r ≡ flagsAllowed rec ⌝ }
 {
@@ -265,18 +178,6 @@ pub fn valid(rec: Record) -> bool
     )
 }
 
-// A pair that is not in the table of signals changes and sends nothing, indication 7.
-pub fn discarded(rec: Record) -> Outcome
-    ensures { λ r. ⌜ r ≡ discarded rec ⌝ }
-{
-    Outcome {
-        refusal: 0,
-        after: rec,
-        sends: Sends::Nothing,
-        ind: 7,
-    }
-}
-
 // A refusal keeps the record, sends nothing and gives indication 0.
 pub fn refused(n: u8, rec: Record) -> Outcome
     ensures { λ r. ⌜ r ≡ refused n rec ⌝ }
@@ -286,6 +187,22 @@ pub fn refused(n: u8, rec: Record) -> Outcome
         after: rec,
         sends: Sends::Nothing,
         ind: 0,
+    }
+}
+
+// What is answered where no row fits: a refusal, or for 0 that the signal is discarded.
+fn otherwise(unmet: u8, rec: Record) -> Outcome
+    ensures { λ r. ⌜ r ≡ otherwise unmet rec ⌝ }
+{
+    if unmet == 0 {
+        Outcome {
+            refusal: 0,
+            after: rec,
+            sends: Sends::Nothing,
+            ind: 7,
+        }
+    } else {
+        refused(unmet, rec)
     }
 }
 
@@ -315,39 +232,48 @@ fn or_else(s: u8, w: Row, other: Outcome) -> Outcome
     if fits(s, w) { done(w) } else { other }
 }
 
-// The first of some rows that fits, and `other` where none does.
-pub fn rows1(s: u8, w1: Row, other: Outcome) -> Outcome
-    ensures { λ r. ⌜ r ≡ first s (w1 ∷ []) other ⌝ }
+// The first of some rows that fits the record's state, and where none does what `unmet` says.
+pub fn rows1(rec: Record, w1: Row, unmet: u8) -> Outcome
+    ensures { λ r. ⌜ r ≡ first (rec .state) (w1 ∷ []) (otherwise unmet rec) ⌝ }
 {
-    or_else(s, w1, other)
+    or_else(rec.state, w1, otherwise(unmet, rec))
 }
 
-pub fn rows2(s: u8, w1: Row, w2: Row, other: Outcome) -> Outcome
-    ensures { λ r. ⌜ r ≡ first s (w1 ∷ w2 ∷ []) other ⌝ }
+pub fn rows2(rec: Record, w1: Row, w2: Row, unmet: u8) -> Outcome
+    ensures { λ r. ⌜ r ≡ first (rec .state) (w1 ∷ w2 ∷ []) (otherwise unmet rec) ⌝ }
 {
-    or_else(s, w1, rows1(s, w2, other))
+    or_else(rec.state, w1, rows1(rec, w2, unmet))
 }
 
-pub fn rows3(s: u8, w1: Row, w2: Row, w3: Row, other: Outcome) -> Outcome
-    ensures { λ r. ⌜ r ≡ first s (w1 ∷ w2 ∷ w3 ∷ []) other ⌝ }
+pub fn rows3(rec: Record, w1: Row, w2: Row, w3: Row, unmet: u8) -> Outcome
+    ensures { λ r. ⌜ r ≡ first (rec .state) (w1 ∷ w2 ∷ w3 ∷ []) (otherwise unmet rec) ⌝ }
 {
-    or_else(s, w1, rows2(s, w2, w3, other))
+    or_else(rec.state, w1, rows2(rec, w2, w3, unmet))
 }
 
-pub fn rows4(s: u8, w1: Row, w2: Row, w3: Row, w4: Row, other: Outcome) -> Outcome
-    ensures { λ r. ⌜ r ≡ first s (w1 ∷ w2 ∷ w3 ∷ w4 ∷ []) other ⌝ }
+pub fn rows4(rec: Record, w1: Row, w2: Row, w3: Row, w4: Row, unmet: u8) -> Outcome
+    ensures { λ r. ⌜ r ≡ first (rec .state) (w1 ∷ w2 ∷ w3 ∷ w4 ∷ []) (otherwise unmet rec) ⌝ }
 {
-    or_else(s, w1, rows3(s, w2, w3, w4, other))
+    or_else(rec.state, w1, rows3(rec, w2, w3, w4, unmet))
 }
 
-pub fn rows5(s: u8, w1: Row, w2: Row, w3: Row, w4: Row, w5: Row, other: Outcome) -> Outcome
-    ensures { λ r. ⌜ r ≡ first s (w1 ∷ w2 ∷ w3 ∷ w4 ∷ w5 ∷ []) other ⌝ }
+pub fn rows5(rec: Record, w1: Row, w2: Row, w3: Row, w4: Row, w5: Row, unmet: u8) -> Outcome
+    ensures { λ r. ⌜ r ≡ first (rec .state) (w1 ∷ w2 ∷ w3 ∷ w4 ∷ w5 ∷ []) (otherwise unmet rec) ⌝ }
 {
-    or_else(s, w1, rows4(s, w2, w3, w4, w5, other))
+    or_else(rec.state, w1, rows4(rec, w2, w3, w4, w5, unmet))
 }
 
-pub fn rows6(s: u8, w1: Row, w2: Row, w3: Row, w4: Row, w5: Row, w6: Row, other: Outcome) -> Outcome
-    ensures { λ r. ⌜ r ≡ first s (w1 ∷ w2 ∷ w3 ∷ w4 ∷ w5 ∷ w6 ∷ []) other ⌝ }
+pub fn rows6(
+    rec: Record,
+    w1: Row,
+    w2: Row,
+    w3: Row,
+    w4: Row,
+    w5: Row,
+    w6: Row,
+    unmet: u8,
+) -> Outcome
+    ensures { λ r. ⌜ r ≡ first (rec .state) (w1 ∷ w2 ∷ w3 ∷ w4 ∷ w5 ∷ w6 ∷ []) (otherwise unmet rec) ⌝ }
 {
-    or_else(s, w1, rows5(s, w2, w3, w4, w5, w6, other))
+    or_else(rec.state, w1, rows5(rec, w2, w3, w4, w5, w6, unmet))
 }

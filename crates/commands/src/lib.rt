@@ -19,13 +19,19 @@ use circuit::Signal::Ran;
 use circuit::Signal::Rsc;
 use circuit::Signal::Ubl;
 use circuit::Timer;
-use circuit::refused;
-use circuit::restarted;
-use circuit::to;
 ghost use mathlib.Core.Path.{_≡_};
 ghost use mathlib.Core.Bool.{cond};
 ghost use Prim.Native.Nat.{_<_};
 ghost use Rattle.commands.specs.Tables.{late, typeBits, completeOctet, answerSignal, seizeRefusal, onCommand, onTimer};
+
+// The record after a restart: awaiting reset, no flag.
+const RESTARTED: Record = Record {
+    state: 12,
+    own: false,
+    far: false,
+    bla: false,
+    uba: false,
+};
 
 fn seize_refusal(rec: Record) -> u8
     ensures { λ r. ⌜ r ≡ seizeRefusal rec ⌝ }
@@ -41,9 +47,9 @@ fn seize(rec: Record) -> Outcome
     ensures { λ r. ⌜ r ≡ onCommand rec Command.Seize ⌝ }
 {
     circuit::rows1(
-        rec.state,
-        Row(0, 0, !rec.far, One(Iam), to(rec, 1), 0),
-        refused(seize_refusal(rec), rec),
+        rec,
+        Row(0, 0, !rec.far, One(Iam), Record { state: 1, ..rec }, 0),
+        seize_refusal(rec),
     )
 }
 
@@ -51,9 +57,9 @@ fn release(rec: Record) -> Outcome
     ensures { λ r. ⌜ r ≡ onCommand rec Command.Release ⌝ }
 {
     circuit::rows1(
-        rec.state,
-        Row(1, 4, true, One(Clf), to(rec, 5), 0),
-        refused(5, rec),
+        rec,
+        Row(1, 4, true, One(Clf), Record { state: 5, ..rec }, 0),
+        5,
     )
 }
 
@@ -88,11 +94,9 @@ fn address_complete(rec: Record, t: AddressType, free: bool) -> Outcome
     ensures { λ r. ⌜ r ≡ onCommand rec (Command.AddressComplete t free) ⌝ }
 {
     let octet = complete_octet(t, free);
-    circuit::rows1(
-        rec.state,
-        Row(6, 6, true, One(Acm(octet)), to(rec, proceeding(free)), 0),
-        refused(5, rec),
-    )
+    let state = proceeding(free);
+    let after = Record { state, ..rec };
+    circuit::rows1(rec, Row(6, 6, true, One(Acm(octet)), after, 0), 5)
 }
 
 fn answer_signal(charging: Charging) -> Signal
@@ -109,9 +113,9 @@ fn answer(rec: Record, charging: Charging) -> Outcome
 {
     let signal = answer_signal(charging);
     circuit::rows1(
-        rec.state,
-        Row(7, 8, true, One(signal), to(rec, 9), 0),
-        refused(5, rec),
+        rec,
+        Row(7, 8, true, One(signal), Record { state: 9, ..rec }, 0),
+        5,
     )
 }
 
@@ -119,9 +123,9 @@ fn clear_back(rec: Record) -> Outcome
     ensures { λ r. ⌜ r ≡ onCommand rec Command.ClearBack ⌝ }
 {
     circuit::rows1(
-        rec.state,
-        Row(9, 9, true, One(Cbk), to(rec, 10), 0),
-        refused(5, rec),
+        rec,
+        Row(9, 9, true, One(Cbk), Record { state: 10, ..rec }, 0),
+        5,
     )
 }
 
@@ -129,9 +133,9 @@ fn re_answer(rec: Record) -> Outcome
     ensures { λ r. ⌜ r ≡ onCommand rec Command.ReAnswer ⌝ }
 {
     circuit::rows1(
-        rec.state,
-        Row(10, 10, true, One(Ran), to(rec, 9), 0),
-        refused(5, rec),
+        rec,
+        Row(10, 10, true, One(Ran), Record { state: 9, ..rec }, 0),
+        5,
     )
 }
 
@@ -154,43 +158,43 @@ fn late(f: Failure) -> bool
 fn fail_call(rec: Record, f: Failure) -> Outcome
     ensures { λ r. ⌜ r ≡ onCommand rec (Command.FailCall f) ⌝ }
 {
-    let failed = to(rec, 11);
+    let failed = Record { state: 11, ..rec };
     circuit::rows2(
-        rec.state,
+        rec,
         Row(6, 6, true, One(Fail(f)), failed, 0),
         Row(7, 7, late(f), One(Fail(f)), failed, 0),
-        refused(5, rec),
+        5,
     )
 }
 
 fn block(rec: Record) -> Outcome
     ensures { λ r. ⌜ r ≡ onCommand rec Command.Block ⌝ }
 {
-    circuit::rows1(
-        rec.state,
-        Row(0, 11, !rec.own, One(Blo), circuit::block(rec), 0),
-        refused(5, rec),
-    )
+    let blocked = Record {
+        own: true,
+        bla: true,
+        uba: false,
+        ..rec
+    };
+    circuit::rows1(rec, Row(0, 11, !rec.own, One(Blo), blocked, 0), 5)
 }
 
 fn unblock(rec: Record) -> Outcome
     ensures { λ r. ⌜ r ≡ onCommand rec Command.Unblock ⌝ }
 {
-    circuit::rows1(
-        rec.state,
-        Row(0, 12, rec.own, One(Ubl), circuit::unblock(rec), 0),
-        refused(5, rec),
-    )
+    let unblocked = Record {
+        own: false,
+        bla: false,
+        uba: true,
+        ..rec
+    };
+    circuit::rows1(rec, Row(0, 12, rec.own, One(Ubl), unblocked, 0), 5)
 }
 
 fn restart(rec: Record) -> Outcome
     ensures { λ r. ⌜ r ≡ onCommand rec Command.Restart ⌝ }
 {
-    circuit::rows1(
-        rec.state,
-        Row(0, 12, true, One(Rsc), restarted(), 0),
-        refused(5, rec),
-    )
+    circuit::rows1(rec, Row(0, 12, true, One(Rsc), RESTARTED, 0), 5)
 }
 
 pub fn on_command(rec: Record, k: Command) -> Outcome
@@ -214,21 +218,21 @@ fn address_wait(rec: Record) -> Outcome
     ensures { λ r. ⌜ r ≡ onTimer rec Timer.AddressWait ⌝ }
 {
     circuit::rows1(
-        rec.state,
-        Row(1, 1, true, One(Clf), to(rec, 5), 10),
-        refused(6, rec),
+        rec,
+        Row(1, 1, true, One(Clf), Record { state: 5, ..rec }, 10),
+        6,
     )
 }
 
 fn answer_wait(rec: Record) -> Outcome
     ensures { λ r. ⌜ r ≡ onTimer rec Timer.AnswerWait ⌝ }
 {
-    let released = to(rec, 5);
+    let released = Record { state: 5, ..rec };
     circuit::rows2(
-        rec.state,
+        rec,
         Row(2, 2, true, One(Clf), released, 10),
         Row(4, 4, true, One(Clf), released, 10),
-        refused(6, rec),
+        6,
     )
 }
 
@@ -236,9 +240,16 @@ fn incoming_hang_up(rec: Record) -> Outcome
     ensures { λ r. ⌜ r ≡ onTimer rec Timer.IncomingHangUp ⌝ }
 {
     circuit::rows1(
-        rec.state,
-        Row(10, 10, true, One(Fail(Failure::Cfl)), to(rec, 11), 0),
-        refused(6, rec),
+        rec,
+        Row(
+            10,
+            10,
+            true,
+            One(Fail(Failure::Cfl)),
+            Record { state: 11, ..rec },
+            0,
+        ),
+        6,
     )
 }
 
@@ -246,24 +257,24 @@ fn repeat(rec: Record) -> Outcome
     ensures { λ r. ⌜ r ≡ onTimer rec Timer.Repeat ⌝ }
 {
     circuit::rows3(
-        rec.state,
+        rec,
         Row(5, 5, true, One(Clf), rec, 0),
         Row(11, 11, true, One(Fail(Failure::Cfl)), rec, 0),
         Row(12, 12, true, One(Rsc), rec, 0),
-        refused(6, rec),
+        6,
     )
 }
 
 fn one_minute(rec: Record) -> Outcome
     ensures { λ r. ⌜ r ≡ onTimer rec Timer.OneMinute ⌝ }
 {
-    let reset = restarted();
+    let reset = RESTARTED;
     circuit::rows3(
-        rec.state,
+        rec,
         Row(5, 5, true, One(Rsc), reset, 8),
         Row(11, 11, true, One(Rsc), reset, 8),
         Row(12, 12, true, One(Rsc), rec, 8),
-        refused(6, rec),
+        6,
     )
 }
 
@@ -271,10 +282,10 @@ fn block_repeat(rec: Record) -> Outcome
     ensures { λ r. ⌜ r ≡ onTimer rec Timer.BlockRepeat ⌝ }
 {
     circuit::rows2(
-        rec.state,
+        rec,
         Row(0, 12, rec.bla, One(Blo), rec, 0),
         Row(0, 12, rec.uba, One(Ubl), rec, 0),
-        refused(6, rec),
+        6,
     )
 }
 

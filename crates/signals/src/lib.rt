@@ -13,24 +13,24 @@ use circuit::Signal::Blo;
 use circuit::Signal::Clf;
 use circuit::Signal::Rlg;
 use circuit::Signal::Uba;
-use circuit::discarded;
-use circuit::set_bla;
-use circuit::set_far;
-use circuit::set_uba;
-use circuit::to;
 ghost use mathlib.Core.Path.{_≡_};
 ghost use Rattle.signals.specs.Table.{reset, bloFirst, rscRow, onSignal};
 
 fn on_iam(con: bool, rec: Record) -> Outcome
     ensures { λ r. ⌜ r ≡ onSignal con rec Signal.Iam ⌝ }
 {
+    let awaiting = Record {
+        state: 0,
+        bla: true,
+        ..rec
+    };
     circuit::rows4(
-        rec.state,
-        Row(0, 0, !rec.own, Nothing, to(rec, 6), 1),
-        Row(0, 0, rec.own, One(Blo), set_bla(to(rec, 0), true), 7),
-        Row(1, 1, !con, Nothing, to(rec, 6), 9),
-        Row(5, 5, !con, Nothing, to(rec, 6), 1),
-        discarded(rec),
+        rec,
+        Row(0, 0, !rec.own, Nothing, Record { state: 6, ..rec }, 1),
+        Row(0, 0, rec.own, One(Blo), awaiting, 7),
+        Row(1, 1, !con, Nothing, Record { state: 6, ..rec }, 9),
+        Row(5, 5, !con, Nothing, Record { state: 6, ..rec }, 1),
+        0,
     )
 }
 
@@ -38,9 +38,9 @@ fn on_acm(con: bool, rec: Record, octet: u8) -> Outcome
     ensures { λ r. ⌜ r ≡ onSignal con rec (Signal.Acm octet) ⌝ }
 {
     circuit::rows1(
-        rec.state,
-        Row(1, 1, true, Nothing, to(rec, 2), 2),
-        discarded(rec),
+        rec,
+        Row(1, 1, true, Nothing, Record { state: 2, ..rec }, 2),
+        0,
     )
 }
 
@@ -48,9 +48,9 @@ fn on_anc(con: bool, rec: Record) -> Outcome
     ensures { λ r. ⌜ r ≡ onSignal con rec Signal.Anc ⌝ }
 {
     circuit::rows1(
-        rec.state,
-        Row(2, 2, true, Nothing, to(rec, 3), 3),
-        discarded(rec),
+        rec,
+        Row(2, 2, true, Nothing, Record { state: 3, ..rec }, 3),
+        0,
     )
 }
 
@@ -58,9 +58,9 @@ fn on_ann(con: bool, rec: Record) -> Outcome
     ensures { λ r. ⌜ r ≡ onSignal con rec Signal.Ann ⌝ }
 {
     circuit::rows1(
-        rec.state,
-        Row(2, 2, true, Nothing, to(rec, 3), 3),
-        discarded(rec),
+        rec,
+        Row(2, 2, true, Nothing, Record { state: 3, ..rec }, 3),
+        0,
     )
 }
 
@@ -68,9 +68,9 @@ fn on_cbk(con: bool, rec: Record) -> Outcome
     ensures { λ r. ⌜ r ≡ onSignal con rec Signal.Cbk ⌝ }
 {
     circuit::rows1(
-        rec.state,
-        Row(3, 3, true, Nothing, to(rec, 4), 4),
-        discarded(rec),
+        rec,
+        Row(3, 3, true, Nothing, Record { state: 4, ..rec }, 4),
+        0,
     )
 }
 
@@ -78,9 +78,9 @@ fn on_ran(con: bool, rec: Record) -> Outcome
     ensures { λ r. ⌜ r ≡ onSignal con rec Signal.Ran ⌝ }
 {
     circuit::rows1(
-        rec.state,
-        Row(4, 4, true, Nothing, to(rec, 3), 3),
-        discarded(rec),
+        rec,
+        Row(4, 4, true, Nothing, Record { state: 3, ..rec }, 3),
+        0,
     )
 }
 
@@ -88,36 +88,36 @@ fn on_fail(con: bool, rec: Record, f: Failure) -> Outcome
     ensures { λ r. ⌜ r ≡ onSignal con rec (Signal.Fail f) ⌝ }
 {
     circuit::rows1(
-        rec.state,
-        Row(1, 4, true, One(Clf), to(rec, 5), 10),
-        discarded(rec),
+        rec,
+        Row(1, 4, true, One(Clf), Record { state: 5, ..rec }, 10),
+        0,
     )
 }
 
 fn on_clf(con: bool, rec: Record) -> Outcome
     ensures { λ r. ⌜ r ≡ onSignal con rec Signal.Clf ⌝ }
 {
-    let idle = to(rec, 0);
+    let idle = Record { state: 0, ..rec };
     circuit::rows5(
-        rec.state,
+        rec,
         Row(0, 0, true, One(Rlg), idle, 0),
         Row(1, 1, !con, One(Rlg), idle, 6),
         Row(5, 5, !con, One(Rlg), idle, 5),
         Row(6, 11, true, One(Rlg), idle, 5),
         Row(12, 12, true, One(Rlg), idle, 5),
-        discarded(rec),
+        0,
     )
 }
 
 fn on_rlg(con: bool, rec: Record) -> Outcome
     ensures { λ r. ⌜ r ≡ onSignal con rec Signal.Rlg ⌝ }
 {
-    let idle = to(rec, 0);
+    let idle = Record { state: 0, ..rec };
     circuit::rows2(
-        rec.state,
+        rec,
         Row(5, 5, true, Nothing, idle, 5),
         Row(12, 12, true, Nothing, idle, 5),
-        discarded(rec),
+        0,
     )
 }
 
@@ -151,12 +151,17 @@ fn blo_first(own: bool, sends: Sends) -> Sends
 fn rsc_row(rec: Record, low: u8, high: u8, sends: Sends, new: u8, ind: u8) -> Row
     ensures { λ r. ⌜ r ≡ rscRow rec low high sends new ind ⌝ }
 {
+    let clear = reset(rec);
+    let all = blo_first(rec.own, sends);
     Row(
         low,
         high,
         true,
-        blo_first(rec.own, sends),
-        to(reset(rec), new),
+        all,
+        Record {
+            state: new,
+            ..clear
+        },
         ind,
     )
 }
@@ -165,25 +170,30 @@ fn on_rsc(con: bool, rec: Record) -> Outcome
     ensures { λ r. ⌜ r ≡ onSignal con rec Signal.Rsc ⌝ }
 {
     circuit::rows6(
-        rec.state,
+        rec,
         rsc_row(rec, 0, 0, One(Rlg), 0, 0),
         rsc_row(rec, 1, 1, One(Clf), 5, 6),
         rsc_row(rec, 2, 4, One(Clf), 5, 10),
         rsc_row(rec, 5, 5, Nothing, 5, 7),
         rsc_row(rec, 6, 11, One(Rlg), 0, 5),
         rsc_row(rec, 12, 12, One(Rlg), 12, 0),
-        discarded(rec),
+        0,
     )
 }
 
 fn on_blo(con: bool, rec: Record) -> Outcome
     ensures { λ r. ⌜ r ≡ onSignal con rec Signal.Blo ⌝ }
 {
+    let released = Record {
+        state: 5,
+        far: true,
+        ..rec
+    };
     circuit::rows2(
-        rec.state,
-        Row(1, 1, true, Two(Bla, Clf), set_far(to(rec, 5), true), 6),
-        Row(0, 12, true, One(Bla), set_far(rec, true), 0),
-        discarded(rec),
+        rec,
+        Row(1, 1, true, Two(Bla, Clf), released, 6),
+        Row(0, 12, true, One(Bla), Record { far: true, ..rec }, 0),
+        0,
     )
 }
 
@@ -191,9 +201,9 @@ fn on_ubl(con: bool, rec: Record) -> Outcome
     ensures { λ r. ⌜ r ≡ onSignal con rec Signal.Ubl ⌝ }
 {
     circuit::rows1(
-        rec.state,
-        Row(0, 12, true, One(Uba), set_far(rec, false), 0),
-        discarded(rec),
+        rec,
+        Row(0, 12, true, One(Uba), Record { far: false, ..rec }, 0),
+        0,
     )
 }
 
@@ -201,9 +211,9 @@ fn on_bla(con: bool, rec: Record) -> Outcome
     ensures { λ r. ⌜ r ≡ onSignal con rec Signal.Bla ⌝ }
 {
     circuit::rows1(
-        rec.state,
-        Row(0, 12, rec.bla, Nothing, set_bla(rec, false), 0),
-        discarded(rec),
+        rec,
+        Row(0, 12, rec.bla, Nothing, Record { bla: false, ..rec }, 0),
+        0,
     )
 }
 
@@ -211,9 +221,9 @@ fn on_uba(con: bool, rec: Record) -> Outcome
     ensures { λ r. ⌜ r ≡ onSignal con rec Signal.Uba ⌝ }
 {
     circuit::rows1(
-        rec.state,
-        Row(0, 12, rec.uba, Nothing, set_uba(rec, false), 0),
-        discarded(rec),
+        rec,
+        Row(0, 12, rec.uba, Nothing, Record { uba: false, ..rec }, 0),
+        0,
     )
 }
 

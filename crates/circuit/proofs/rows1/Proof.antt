@@ -5,12 +5,15 @@ use borrow.Author.Needs.{needs}
 use Rattle.circuit.proofs.rows1.Statement.{statement}
 use Rattle.circuit.proofs.rows1.Tie as tie
 
+otherwise-requires : tie.Need-otherwise-requires
+otherwise-requires c κs = search needs
+
 or-else-requires : tie.Need-or-else-requires
 or-else-requires c κs = search needs
 
 returns : tie.Need-returns
 unfolding first
-returns c = rw (c .or-else .ensures)
+returns c = rw (c .or-else .ensures, c .before .otherwise .ensures)
 
 pub rows1-spec : {M : Type 1} → statement M
-rows1-spec = tie.close (tie.spec or-else-requires returns)
+rows1-spec = tie.close (tie.spec otherwise-requires or-else-requires returns)

@@ -10,25 +10,12 @@ complete-octet-requires c κs = search needs
 proceeding-requires : tie.Need-proceeding-requires
 proceeding-requires c κs = search needs
 
-to-requires : tie.Need-to-requires
-to-requires c κs = search needs
-
-refused-requires : tie.Need-refused-requires
-refused-requires c κs = search needs
-
 rows1-requires : tie.Need-rows1-requires
 rows1-requires c κs = search needs
 
 returns : tie.Need-returns
-returns c = rw (c .rows1 .ensures, c .before .refused .ensures, c .before .before .to .ensures, c .before .before .before .proceeding .ensures, c .before .before .before .before .complete-octet .ensures)
+returns c = rw (c .rows1 .ensures, c .before .proceeding .ensures, c .before .before .complete-octet .ensures)
 
 pub address-complete-spec : {M : Type 1} → statement M
 address-complete-spec =
-    tie.close
-    (tie.spec
-    complete-octet-requires
-    proceeding-requires
-    to-requires
-    refused-requires
-    rows1-requires
-    returns)
+    tie.close (tie.spec complete-octet-requires proceeding-requires rows1-requires returns)

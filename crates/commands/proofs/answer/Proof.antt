@@ -7,18 +7,11 @@ use Rattle.commands.proofs.answer.Tie as tie
 answer-signal-requires : tie.Need-answer-signal-requires
 answer-signal-requires c κs = search needs
 
-to-requires : tie.Need-to-requires
-to-requires c κs = search needs
-
-refused-requires : tie.Need-refused-requires
-refused-requires c κs = search needs
-
 rows1-requires : tie.Need-rows1-requires
 rows1-requires c κs = search needs
 
 returns : tie.Need-returns
-returns c = rw (c .rows1 .ensures, c .before .refused .ensures, c .before .before .to .ensures, c .before .before .before .answer-signal .ensures)
+returns c = rw (c .rows1 .ensures, c .before .answer-signal .ensures)
 
 pub answer-spec : {M : Type 1} → statement M
-answer-spec =
-    tie.close (tie.spec answer-signal-requires to-requires refused-requires rows1-requires returns)
+answer-spec = tie.close (tie.spec answer-signal-requires rows1-requires returns)

@@ -22,14 +22,11 @@ rsc-row-requires-5 c κs = search needs
 rsc-row-requires-6 : tie.Need-rsc-row-requires-6
 rsc-row-requires-6 c κs = search needs
 
-discarded-requires : tie.Need-discarded-requires
-discarded-requires c κs = search needs
-
 rows6-requires : tie.Need-rows6-requires
 rows6-requires c κs = search needs
 
 returns : tie.Need-returns
-returns c = rw (c .rows6 .ensures, c .before .discarded .ensures, c .before .before .rsc-row6 .ensures, c .before .before .before .rsc-row5 .ensures, c .before .before .before .before .rsc-row4 .ensures, c .before .before .before .before .before .rsc-row3 .ensures, c .before .before .before .before .before .before .rsc-row2 .ensures, c .before .before .before .before .before .before .before .rsc-row .ensures)
+returns c = rw (c .rows6 .ensures, c .before .rsc-row6 .ensures, c .before .before .rsc-row5 .ensures, c .before .before .before .rsc-row4 .ensures, c .before .before .before .before .rsc-row3 .ensures, c .before .before .before .before .before .rsc-row2 .ensures, c .before .before .before .before .before .before .rsc-row .ensures)
 
 pub on-rsc-spec : {M : Type 1} → statement M
 on-rsc-spec =
@@ -41,6 +38,5 @@ on-rsc-spec =
     rsc-row-requires-4
     rsc-row-requires-5
     rsc-row-requires-6
-    discarded-requires
     rows6-requires
     returns)
