@@ -111,6 +111,9 @@ pub struct Outcome {
     pub ind: u8,
 }
 
+// The refusal's number where there is none.
+const ACCEPTED: u8 = 0;
+
 // A row of a printed table: its first and its last state, its further condition; what is sent, the new record, the indication.
 pub struct Row(pub u8, pub u8, pub bool, pub Sends, pub Record, pub u8);
 
@@ -196,7 +199,7 @@ fn otherwise(unmet: u8, rec: Record) -> Outcome
 {
     if unmet == 0 {
         Outcome {
-            refusal: 0,
+            refusal: ACCEPTED,
             after: rec,
             sends: Sends::Nothing,
             ind: 7,
@@ -218,7 +221,7 @@ fn done(w: Row) -> Outcome
     let sends = w.3;
     let after = w.4;
     Outcome {
-        refusal: 0,
+        refusal: ACCEPTED,
         after: after,
         sends: sends,
         ind: w.5,

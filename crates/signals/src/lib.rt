@@ -125,13 +125,9 @@ fn on_rlg(con: bool, rec: Record) -> Outcome
 fn reset(rec: Record) -> Record
     ensures { λ r. ⌜ r ≡ reset rec ⌝ }
 {
-    Record {
-        state: rec.state,
-        own: rec.own,
-        far: false,
-        bla: circuit::either(rec.own, rec.bla),
-        uba: rec.uba,
-    }
+    let far = false;
+    let bla = circuit::either(rec.own, rec.bla);
+    Record { far, bla, ..rec }
 }
 
 fn blo_first(own: bool, sends: Sends) -> Sends

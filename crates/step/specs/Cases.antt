@@ -3,6 +3,7 @@
 use mathlib.Core.Path.{_≡_, refl}
 use mathlib.Core.Bool.{Bool, true, false}
 use mathlib.Core.List.{List, [], _∷_, map}
+use lib.ListN.{length}
 use Rattle.circuit.specs.declared.Failure.the-variants.{Cfl}
 use Rattle.circuit.specs.declared.Signal.the-variants.{Iam, Clf, Rlg, Blo, Bla, Rsc}
 use Rattle.circuit.specs.declared.Sends.the-variants.{Nothing, One, Two}
@@ -45,3 +46,7 @@ cases =
 pub claim : map (λ (k : Case). k .given) cases ≡ map (λ (k : Case). k .wanted) cases
 unfolding step first
 claim = refl
+
+-- none is left out: P8 has two
+pub all : length cases ≡ 9
+all = refl

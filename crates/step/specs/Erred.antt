@@ -11,7 +11,7 @@ use Rattle.circuit.specs.declared.Sends.the-variants.{Nothing, One, Two}
 use Rattle.circuit.specs.declared.Command.the-variants.{Restart}
 use Rattle.circuit.specs.declared.Event.{Event}
 use Rattle.circuit.specs.declared.Event.the-variants.{Arrives, Ordered}
-use Rattle.circuit.specs.Records.{valid, restarted, flagsAllowed, onlyFar}
+use Rattle.circuit.specs.Records.{to, valid, restarted, flagsAllowed, onlyFar}
 use Rattle.circuit.specs.Rows.{first, answered}
 use Rattle.circuit.specs.Every.{implies, then, left, right, everywhere, atValid}
 use Rattle.step.specs.Step.{step}
