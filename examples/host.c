@@ -146,7 +146,8 @@ static void receive(struct exchange *x)
     struct exchange *from = &exchanges[1 - (x - exchanges)];
     uint8_t fields[TUP_MESSAGE_OCTETS];
     char what[16];
-    uint32_t refusal = tup_read(x->own, x->far, CIRCUITS, from->sent[from->first], from->sent_len[from->first], fields, sizeof fields);
+    uint32_t refusal = tup_read(x->own, x->far, CIRCUITS, from->sent[from->first], from->sent_len[from->first], fields,
+                                sizeof fields);
     from->first = (from->first + 1) % QUEUE;
     from->waiting--;
     if (refusal != 0) {

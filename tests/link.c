@@ -33,13 +33,15 @@ static void print_octets(const char *name, const uint8_t *octets, size_t len)
 
 static void describe(void)
 {
-    printf("  %s: own %u far %u count %u, output of %zu octets\n", reading ? "read" : "write", now.own, now.far, now.count, out_len_now);
-    if (reading)
+    printf("  %s: own %u far %u count %u, output of %zu octets\n", reading ? "read" : "write", now.own, now.far, now.count,
+           out_len_now);
+    if (reading) {
         print_octets(" message", octets_now, len_now);
-    else {
-        printf("  circuit %u heading %02x acm %u category %u indicators %u\n", now.cic, now.heading, now.acm, now.category, now.indicators);
-        print_octets(" address", now.address, now.address_len);
+        return;
     }
+    printf("  circuit %u heading %02x acm %u category %u indicators %u\n", now.cic, now.heading, now.acm, now.category,
+           now.indicators);
+    print_octets(" address", now.address, now.address_len);
 }
 
 /* The output lent to the archive, inside a stretch of OUTPUT octets at an end of its room, and the reference's beside it. */
@@ -204,6 +206,23 @@ static void read_every_circuit(void)
             octets[5] = TUP_CLF;
             compare_read(octets, 6, TUP_MESSAGE_OCTETS, NULL);
         }
+}
+
+/* Point codes and counts at their bounds and equal ones, for the reader and for the writer. */
+static void every_group(void)
+{
+    static const uint32_t codes[] = {0, 1, 2, 16382, 16383, 16384, 16385, 65535, 65536, 65537};
+    static const uint32_t counts[] = {0, 1, 4095, 4096, 4097, 65537};
+    enum { CODES = sizeof codes / sizeof *codes, COUNTS = sizeof counts / sizeof *counts };
+    for (unsigned i = 0; i < CODES * CODES * COUNTS; i++) {
+        struct message m = {.own = codes[i % CODES], .far = codes[i / CODES % CODES], .heading = TUP_CLF};
+        m.count = counts[i / CODES / CODES];
+        uint8_t octets[LENGTHS] = {0};
+        compare_write(&m, TUP_MESSAGE_MAX, NULL);
+        put_label(octets, m.own % 16384, m.far % 16384, 0);
+        octets[5] = TUP_CLF;
+        compare_read(octets, 6, TUP_MESSAGE_OCTETS, NULL);
+    }
 }
 
 static void read_wide_numbers(void)
@@ -384,6 +403,22 @@ static void no_octets(void)
         differ("an empty output is not refused 11");
 }
 
+/* Lengths whose lowest 32 bits would do, of a message, and would not, of an output. */
+static void vast_lengths(void)
+{
+    uint8_t *vast = vast_make(), octets[6], out[TUP_MESSAGE_OCTETS];
+    if (vast == NULL)
+        return;
+    put_label(octets, 1, 2, 3);
+    octets[5] = TUP_CLF;
+    if (tup_read(1, 2, 4, octets, sizeof octets, vast, VAST + 1) != 0)
+        differ("an output of more than 4 GiB is not taken for a message read");
+    if (tup_write(2, 1, 4, 3, TUP_CLF, 0, 0, 0, NULL, 0, vast, VAST + 1) != 6u << 8)
+        differ("an output of more than 4 GiB is not taken for a message");
+    if (tup_read(1, 2, 4, vast, VAST + 6, out, sizeof out) != TUP_WRONG_LENGTH)
+        differ("a message of more than 4 GiB is not refused 7");
+}
+
 int main(void)
 {
     uint32_t times = long_run() ? 10000000 : 500000;
@@ -394,12 +429,14 @@ int main(void)
     read_every_code();
     read_every_circuit();
     read_wide_numbers();
+    every_group();
     write_every_shape();
     write_every_code();
     write_every_value();
     write_wide_numbers();
     write_every_output();
     no_octets();
+    vast_lengths();
     read_damaged(times);
     round_trips(times);
     covered("%llu reads, %llu of them taken; %llu writes, %llu of them taken", reads, read_well, writes, written_well);

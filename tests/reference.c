@@ -188,7 +188,7 @@ static int command_listed(uint32_t command, uint32_t detail)
     }
 }
 
-/* A command that is allowed in one state, or in none but these, sends one signal and keeps the flags. */
+/* What most commands do: where allowed, one signal is sent and the flags stay. */
 static answer if_allowed(int allowed, unsigned heading, unsigned next, unsigned state, unsigned flags)
 {
     return allowed ? goes(next, flags, 0, heading, 0) : refused(5, state, flags);
@@ -552,7 +552,8 @@ static void replay_events(uint32_t own, uint32_t far, uint32_t count, const uint
             return;
         }
         uint32_t cic = two(events + 1), detail = events[0] == 3 ? 0 : events[4];
-        put_line(ordinal, cic, ref_step(own, far, table, (size_t)count * REF_RECORD_OCTETS, cic, events[0], events[3], detail), out);
+        answer given = ref_step(own, far, table, (size_t)count * REF_RECORD_OCTETS, cic, events[0], events[3], detail);
+        put_line(ordinal, cic, given, out);
     }
     fprintf(out, "end %llu\n", (unsigned long long)(ordinal - 1));
 }

@@ -213,6 +213,15 @@ static void no_table(void)
         differ("an empty table is not refused 1");
 }
 
+/* A length whose lowest 32 bits would do. */
+static void vast_table(void)
+{
+    uint8_t *vast = vast_make();
+    now.len = VAST + TUP_TABLE_OCTETS(2);
+    if (vast != NULL && tup_step(2, 1, vast, now.len, 0, TUP_COMMAND, TUP_RESTART, 0) != TUP_NO_SUCH_GROUP)
+        differ("a table of more than 4 GiB is not refused 1");
+}
+
 int main(int argc, char **argv)
 {
     unsigned char wanted[256];
@@ -230,6 +239,7 @@ int main(int argc, char **argv)
     wide_numbers();
     every_point_code();
     no_table();
+    vast_table();
     covered("%llu calls in all", calls);
     return 0;
 }
