@@ -112,7 +112,8 @@ static uint64_t run_writes(int archive, size_t unused)
     uint8_t out[TUP_MESSAGE_MAX] = {0};
     for (size_t i = 0; i < ITEMS; i++) {
         const struct message *m = messages + i;
-        sum += write(2, 1, 4096, m->cic, m->heading, m->acm, m->category, m->indicators, m->address, m->address_len, out, sizeof out);
+        sum += write(2, 1, 4096, m->cic, m->heading, m->acm, m->category, m->indicators, m->address, m->address_len, out,
+                     sizeof out);
         sum += out[i % sizeof out];
     }
     return sum;

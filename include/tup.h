@@ -1,13 +1,13 @@
 /* Circuit control of one group of both-way TUP circuits, and the reader and the writer of its messages, for a host in C.
  *
  * What is proved. For every input, refused or not, the contracts of the three functions below determine the answer and the later
- * contents of all lent memory, and these are what document 01 says. Nothing is kept between calls: no heap, no statics, no input
- * or output. The compiler, this header and the host itself are outside the proof.
+ * contents of all lent memory, and these are what document 01 says. The compiler, this header and the host are outside the proof.
  *
  * What the host owes.
- * - Pointers and lengths are true: the octets lent are there, and may be written where the pointer is not const.
+ * - Pointers and lengths are true: the octets lent are there, and may be written where the pointer is not const. With length 0
+ *   the pointer may be NULL (tested, not proved).
  * - Slices lent in one call do not overlap.
- * - One call at a time on a table. Calls on different tables may run side by side.
+ * - One call at a time on a table.
  * - Clocks, tones and the message transfer part are the host's. A timer that ran out is an event of kind TUP_TIMER.
  * - After its own restart the host gives command TUP_RESTART on every circuit. It never takes up a stored table: the far end has
  *   moved on meanwhile, and a stale record that is legal cannot be told from a true one.
