@@ -1,0 +1,149 @@
+/* The archive against the reference, in one run: nanoseconds an event in groups of 1 and of 4096 circuits (the same events on the
+   first circuit of either, then calls on all circuits at once), a message read and a message written. Both work on the same
+   inputs, drawn beforehand from a fixed seed; each figure is the best of several rounds, taken in turns after a warm-up, so that
+   neither side has the quieter moments. */
+#define _POSIX_C_SOURCE 199309L
+#include "harness.h"
+#include "reference.h"
+#include "tup.h"
+
+#include <stdio.h>
+#include <string.h>
+#include <time.h>
+
+enum { ITEMS = 1 << 18, ROUNDS = 15 };
+
+typedef uint64_t (*stepper)(uint32_t, uint32_t, uint8_t *, size_t, uint32_t, uint32_t, uint32_t, uint32_t);
+typedef uint32_t (*reader)(uint32_t, uint32_t, uint32_t, const uint8_t *, size_t, uint8_t *, size_t);
+typedef uint32_t (*writer)(uint32_t, uint32_t, uint32_t, uint32_t, uint32_t, uint32_t, uint32_t, uint32_t, const uint8_t *, size_t,
+                           uint8_t *, size_t);
+
+static struct event {
+    uint32_t cic, kind, code, detail;
+} events[ITEMS];
+
+static struct message {
+    uint32_t cic, heading, acm, category, indicators;
+    uint8_t address[TUP_ADDRESS_MAX], octets[TUP_MESSAGE_MAX];
+    size_t address_len, len;
+} messages[ITEMS];
+
+/* Sums of all answers, printed in the end, so that no call can be left out. */
+static uint64_t sums[2];
+
+static double now(void)
+{
+    struct timespec t;
+    clock_gettime(CLOCK_MONOTONIC, &t);
+    return (double)t.tv_sec * 1e9 + (double)t.tv_nsec;
+}
+
+/* One life of a call: seized, completed, answered, hung up, cleared; outgoing or incoming, as the circuit stands. */
+static struct event next_of_call(uint32_t cic, uint32_t state)
+{
+    static const struct event next[] = {
+        [0] = {0, 2, 1, 0}, [1] = {0, 1, 0x14, 1}, [2] = {0, 1, 0x16, 0}, [3] = {0, 1, 0x36, 0}, [4] = {0, 2, 2, 0},
+        [5] = {0, 1, 0x17, 0}, [6] = {0, 2, 3, 5}, [7] = {0, 2, 4, 0}, [8] = {0, 2, 4, 1}, [9] = {0, 2, 5, 0},
+        [10] = {0, 1, 0x46, 0}, [11] = {0, 1, 0x46, 0}, [12] = {0, 1, 0x17, 0}};
+    struct event e = next[state];
+    if (state == 0 && chance(2))
+        e = (struct event){0, 1, 0x11, 0};
+    e.cic = cic;
+    return e;
+}
+
+/* Calls on all circuits at once, with a stray event every now and then: most events are taken, as in a working exchange. */
+static void draw_events(uint32_t circuits)
+{
+    static uint8_t table[TUP_TABLE_OCTETS(TUP_CIRCUITS_MAX)];
+    memset(table, 0, sizeof table);
+    for (size_t i = 0; i < ITEMS; i++) {
+        uint32_t cic = draw(circuits);
+        struct event e = next_of_call(cic, tup_record_state(table, cic));
+        if (chance(16))
+            e = (struct event){cic, 1 + draw(3), draw(256), 0};
+        ref_step(2, 1, table, TUP_TABLE_OCTETS(circuits), e.cic, e.kind, e.code, e.detail);
+        events[i] = e;
+    }
+}
+
+static void draw_messages(void)
+{
+    for (size_t i = 0; i < ITEMS; i++) {
+        struct message m = {.cic = draw(4096), .heading = headings[chance(3) ? 0 : draw(HEADINGS)]};
+        if (m.heading == TUP_ACM)
+            m.acm = draw(64);
+        if (m.heading == TUP_IAM) {
+            m.category = draw(64), m.indicators = draw(2048), m.address_len = 4 + draw(12);
+            for (size_t k = 0; k < m.address_len; k++)
+                m.address[k] = (uint8_t)draw(10);
+        }
+        m.len = ref_write(2, 1, 4096, m.cic, m.heading, m.acm, m.category, m.indicators, m.address, m.address_len, m.octets,
+                          sizeof m.octets) >> 8;
+        messages[i] = m;
+    }
+}
+
+static uint64_t run_steps(int archive, size_t table_len)
+{
+    static uint8_t table[TUP_TABLE_OCTETS(TUP_CIRCUITS_MAX)];
+    stepper step = archive ? tup_step : ref_step;
+    uint64_t sum = 0;
+    memset(table, 0, sizeof table);
+    for (size_t i = 0; i < ITEMS; i++)
+        sum += step(2, 1, table, table_len, events[i].cic, events[i].kind, events[i].code, events[i].detail);
+    return sum;
+}
+
+static uint64_t run_reads(int archive, size_t unused)
+{
+    reader read = archive ? tup_read : ref_read;
+    uint64_t sum = unused;
+    uint8_t out[TUP_MESSAGE_OCTETS] = {0};
+    for (size_t i = 0; i < ITEMS; i++)
+        sum += read(1, 2, 4096, messages[i].octets, messages[i].len, out, sizeof out) + out[i % sizeof out];
+    return sum;
+}
+
+static uint64_t run_writes(int archive, size_t unused)
+{
+    writer write = archive ? tup_write : ref_write;
+    uint64_t sum = unused;
+    uint8_t out[TUP_MESSAGE_MAX] = {0};
+    for (size_t i = 0; i < ITEMS; i++) {
+        const struct message *m = messages + i;
+        sum += write(2, 1, 4096, m->cic, m->heading, m->acm, m->category, m->indicators, m->address, m->address_len, out,
+                     sizeof out);
+        sum += out[i % sizeof out];
+    }
+    return sum;
+}
+
+static void measure(const char *name, uint64_t (*work)(int, size_t), size_t parameter)
+{
+    double best[2] = {1e18, 1e18};
+    for (int round = -2; round < ROUNDS; round++)
+        for (int archive = 0; archive < 2; archive++) {
+            double began = now();
+            sums[archive] += work(archive, parameter);
+            double took = (now() - began) / ITEMS;
+            if (round >= 0 && took < best[archive])
+                best[archive] = took;
+        }
+    printf("%-32s %10.2f %10.2f %8.2f\n", name, best[1], best[0], best[1] / best[0]);
+}
+
+int main(void)
+{
+    printf("%-32s %10s %10s %8s\n", "ns, best of 15 rounds of 262144", "archive", "reference", "ratio");
+    draw_events(1);
+    measure("event, group of 1", run_steps, TUP_TABLE_OCTETS(1));
+    measure("event, group of 4096, one busy", run_steps, TUP_TABLE_OCTETS(TUP_CIRCUITS_MAX));
+    draw_events(TUP_CIRCUITS_MAX);
+    measure("event, group of 4096, all busy", run_steps, TUP_TABLE_OCTETS(TUP_CIRCUITS_MAX));
+    draw_messages();
+    measure("message read", run_reads, 0);
+    measure("message written", run_writes, 0);
+    printf("sums of all answers: %016llx %016llx\n", (unsigned long long)sums[1], (unsigned long long)sums[0]);
+    return sums[0] == sums[1] ? 0 : 1;
+}

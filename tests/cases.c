@@ -1,0 +1,296 @@
+/* Cases written down by hand, each with the answer that document 01 gives: its own list (P1 to P10 and the ones to be run by a
+   program), and one for each place where its words could be read in two ways. They hold the archive, and the reference as well,
+   to numbers that neither of them computed. */
+#include "harness.h"
+#include "reference.h"
+#include "tup.h"
+
+#include <stdio.h>
+#include <string.h>
+
+static const char *case_now;
+
+static void describe(void)
+{
+    printf("  case: %s\n", case_now);
+}
+
+enum { S = TUP_SIGNAL, C = TUP_COMMAND, T = TUP_TIMER };
+
+/* An event on circuit 0 (own 2, far 1: controlling) or 1 (not), and its answer. */
+static const struct step_case {
+    const char *name;
+    uint32_t cic, state, flags, kind, code, detail;
+    uint32_t refusal, new_state, new_flags, indication, first, second;
+} step_cases[] = {
+    {"P1 IAM in 1, controlling", 0, 1, 0, S, 0x11, 0, 0, 1, 0, 7, 0, 0},
+    {"P2 IAM in 1, not controlling", 1, 1, 0, S, 0x11, 0, 0, 6, 0, 9, 0, 0},
+    {"P3 CLF in idle", 0, 0, 0, S, 0x46, 0, 0, 0, 0, 0, 0x17, 0},
+    {"P4 RLG in 3", 0, 3, 0, S, 0x17, 0, 0, 3, 0, 7, 0, 0},
+    {"P5 BLO in 1", 0, 1, 0, S, 0x27, 0, 0, 5, 2, 6, 0x37, 0x46},
+    {"P6 RSC in 9 with own block", 0, 9, 1, S, 0x77, 0, 0, 0, 5, 5, 0x27, 0x17},
+    {"P7 failing in 8", 0, 8, 0, C, 7, 0x55, 5, 8, 0, 0, 0, 0},
+    {"P8 seize with far block in idle", 0, 0, 2, C, 1, 0, 4, 0, 2, 0, 0, 0},
+    {"P8 seize with far block in 1", 0, 1, 2, C, 1, 0, 5, 1, 2, 0, 0, 0},
+    {"seize with far block in 12", 0, 12, 2, C, 1, 0, 5, 12, 2, 0, 0, 0},
+    {"flag 4 without 1", 0, 0, 4, S, 0x46, 0, 12, 0, 4, 0, 0, 0},
+    {"flag 8 with 1", 0, 0, 9, S, 0x46, 0, 12, 0, 9, 0, 0, 0},
+    {"own block in 12", 0, 12, 1, S, 0x46, 0, 12, 12, 1, 0, 0, 0},
+    {"far block in 12", 0, 12, 2, S, 0x46, 0, 0, 0, 2, 5, 0x17, 0},
+    {"a flag above 8", 0, 0, 16, S, 0x46, 0, 12, 0, 16, 0, 0, 0},
+    {"a bad record is not repaired by restart", 0, 13, 0, C, 10, 0, 12, 13, 0, 0, 0, 0},
+    {"a bad record comes before a bad event", 0, 13, 0, C, 99, 0, 12, 13, 0, 0, 0, 0},
+    {"a signal's unknown heading is 3, not 9", 0, 0, 0, S, 0x21, 0, 3, 0, 0, 0, 0, 0},
+    {"an ACM's octet may be any", 0, 0, 0, S, 0x14, 255, 0, 0, 0, 7, 0, 0},
+    {"the ACM's octet changes nothing", 0, 1, 0, S, 0x14, 4, 0, 2, 0, 2, 0, 0},
+    {"another signal's detail is 0", 0, 0, 0, S, 0x46, 1, 3, 0, 0, 0, 0, 0},
+    {"no such kind", 0, 0, 0, 4, 1, 0, 3, 0, 0, 0, 0, 0},
+    {"a listed failure not allowed in 7 is 5", 0, 7, 0, C, 7, 0x65, 5, 7, 0, 0, 0, 0},
+    {"no failure at all is 3", 0, 7, 0, C, 7, 0x46, 3, 7, 0, 0, 0, 0},
+    {"3 is judged without the state", 0, 0, 0, C, 7, 0x46, 3, 0, 0, 0, 0, 0},
+    {"CGC in 7", 0, 7, 0, C, 7, 0x25, 0, 11, 0, 0, 0x25, 0},
+    {"any failure in 6", 0, 6, 0, C, 7, 0x95, 0, 11, 0, 0, 0x95, 0},
+    {"a timer's number above 6", 0, 0, 0, T, 7, 0, 3, 0, 0, 0, 0, 0},
+    {"a timer not for the state", 0, 0, 0, T, 4, 0, 6, 0, 0, 0, 0, 0},
+    {"\"n\" does not reach from 5 to 6: CLF, controlling", 0, 6, 0, S, 0x46, 0, 0, 0, 0, 5, 0x17, 0},
+    {"CLF in 5, controlling", 0, 5, 0, S, 0x46, 0, 0, 5, 0, 7, 0, 0},
+    {"CLF in 5, not controlling", 1, 5, 0, S, 0x46, 0, 0, 0, 0, 5, 0x17, 0},
+    {"CLF in 1, controlling", 0, 1, 0, S, 0x46, 0, 0, 1, 0, 7, 0, 0},
+    {"CLF in 1, not controlling", 1, 1, 0, S, 0x46, 0, 0, 0, 0, 6, 0x17, 0},
+    {"RSC in 1", 0, 1, 0, S, 0x77, 0, 0, 5, 0, 6, 0x46, 0},
+    {"RSC in 3", 0, 3, 0, S, 0x77, 0, 0, 5, 0, 10, 0x46, 0},
+    {"RSC in 5 sends BLO and clears flag 2", 0, 5, 7, S, 0x77, 0, 0, 5, 5, 7, 0x27, 0},
+    {"RSC in 5 clears flag 2", 0, 5, 2, S, 0x77, 0, 0, 5, 0, 7, 0, 0},
+    {"RSC in 12", 0, 12, 2, S, 0x77, 0, 0, 12, 0, 0, 0x17, 0},
+    {"RSC in 1 with own block", 0, 1, 5, S, 0x77, 0, 0, 5, 5, 6, 0x27, 0x46},
+    {"RSC leaves flag 8", 0, 0, 10, S, 0x77, 0, 0, 0, 8, 0, 0x17, 0},
+    {"IAM with own block, BLA awaited already", 0, 0, 5, S, 0x11, 0, 0, 0, 5, 7, 0x27, 0},
+    {"IAM in 1 with own block, not controlling", 1, 1, 1, S, 0x11, 0, 0, 6, 1, 9, 0, 0},
+    {"IAM in 5 with own block, not controlling", 1, 5, 1, S, 0x11, 0, 0, 6, 1, 1, 0, 0},
+    {"IAM with far block", 0, 0, 2, S, 0x11, 0, 0, 6, 2, 1, 0, 0},
+    {"IAM while UBA is awaited", 0, 0, 8, S, 0x11, 0, 0, 6, 8, 1, 0, 0},
+    {"BLA while UBA is awaited", 0, 0, 8, S, 0x37, 0, 0, 0, 8, 7, 0, 0},
+    {"BLA awaited", 0, 3, 5, S, 0x37, 0, 0, 3, 1, 0, 0, 0},
+    {"BLA not awaited", 0, 0, 1, S, 0x37, 0, 0, 0, 1, 7, 0, 0},
+    {"BLO in 12", 0, 12, 0, S, 0x27, 0, 0, 12, 2, 0, 0x37, 0},
+    {"BLO again", 0, 5, 2, S, 0x27, 0, 0, 5, 2, 0, 0x37, 0},
+    {"a failure in 3", 0, 3, 0, S, 0x95, 0, 0, 5, 0, 10, 0x46, 0},
+    {"a failure in 5", 0, 5, 0, S, 0x55, 0, 0, 5, 0, 7, 0, 0},
+    {"seize with own block", 0, 0, 5, C, 1, 0, 0, 1, 5, 0, 0x11, 0},
+    {"block while UBA is awaited", 0, 0, 8, C, 8, 0, 0, 0, 5, 0, 0x27, 0},
+    {"block keeps the far block", 0, 5, 10, C, 8, 0, 0, 5, 7, 0, 0x27, 0},
+    {"block twice", 0, 0, 1, C, 8, 0, 5, 0, 1, 0, 0, 0},
+    {"block in 12", 0, 12, 0, C, 8, 0, 5, 12, 0, 0, 0, 0},
+    {"unblock while BLA is awaited", 0, 0, 5, C, 9, 0, 0, 0, 8, 0, 0x47, 0},
+    {"unblock without a block", 0, 0, 0, C, 9, 0, 5, 0, 0, 0, 0, 0},
+    {"restart in 12", 0, 12, 2, C, 10, 0, 0, 12, 0, 0, 0x77, 0},
+    {"restart of an answered call with marks", 0, 9, 7, C, 10, 0, 0, 12, 0, 0, 0x77, 0},
+    {"address complete, subscriber free", 0, 6, 0, C, 3, 4, 0, 8, 0, 0, 0x14, 0},
+    {"address complete, type 3", 0, 6, 0, C, 3, 3, 0, 7, 0, 0, 0x14, 0},
+    {"address complete, detail 8", 0, 6, 0, C, 3, 8, 3, 6, 0, 0, 0, 0},
+    {"answer without charge", 0, 8, 0, C, 4, 1, 0, 9, 0, 0, 0x26, 0},
+    {"timer 1", 0, 1, 0, T, 1, 0, 0, 5, 0, 10, 0x46, 0},
+    {"timer 2 in 3", 0, 3, 0, T, 2, 0, 6, 3, 0, 0, 0, 0},
+    {"timer 3 fails a call that command 7 may not", 0, 10, 0, T, 3, 0, 0, 11, 0, 0, 0x55, 0},
+    {"timer 4 in 11 keeps the flags", 0, 11, 1, T, 4, 0, 0, 11, 1, 0, 0x55, 0},
+    {"timer 5 in 5", 0, 5, 3, T, 5, 0, 0, 12, 0, 8, 0x77, 0},
+    {"timer 5 in 12 keeps the far block", 0, 12, 2, T, 5, 0, 0, 12, 2, 8, 0x77, 0},
+    {"timer 6 awaiting BLA", 0, 3, 5, T, 6, 0, 0, 3, 5, 0, 0x27, 0},
+    {"timer 6 awaiting UBA", 0, 3, 10, T, 6, 0, 0, 3, 10, 0, 0x47, 0},
+    {"timer 6 awaiting nothing", 0, 0, 1, T, 6, 0, 6, 0, 1, 0, 0, 0},
+    {"a timer has no detail", 0, 1, 0, T, 1, 1, 3, 1, 0, 0, 0, 0},
+};
+
+typedef uint64_t (*stepper)(uint32_t, uint32_t, uint8_t *, size_t, uint32_t, uint32_t, uint32_t, uint32_t);
+typedef uint32_t (*reader)(uint32_t, uint32_t, uint32_t, const uint8_t *, size_t, uint8_t *, size_t);
+typedef uint32_t (*writer)(uint32_t, uint32_t, uint32_t, uint32_t, uint32_t, uint32_t, uint32_t, uint32_t, const uint8_t *, size_t,
+                           uint8_t *, size_t);
+
+static void expect(const char *what, uint64_t got, uint64_t want)
+{
+    if (got != want)
+        differ("%s is %llu and should be %llu", what, (unsigned long long)got, (unsigned long long)want);
+}
+
+static void run_step_case(stepper step, const struct step_case *c)
+{
+    uint8_t table[TUP_TABLE_OCTETS(2)];
+    case_now = c->name;
+    memset(table, 99, sizeof table); /* the other record is a bad one, which must not matter */
+    table[TUP_RECORD_AT(c->cic) + TUP_RECORD_STATE] = (uint8_t)c->state;
+    table[TUP_RECORD_AT(c->cic) + TUP_RECORD_FLAGS] = (uint8_t)c->flags;
+    uint64_t answer = step(2, 1, table, sizeof table, c->cic, c->kind, c->code, c->detail);
+    expect("the refusal", tup_answer_refusal(answer), c->refusal);
+    expect("the state", tup_answer_state(answer), c->new_state);
+    expect("the flags", tup_answer_flags(answer), c->new_flags);
+    expect("the indication", tup_answer_indication(answer), c->indication);
+    expect("the first heading", tup_answer_first(answer), c->first);
+    expect("the second heading", tup_answer_second(answer), c->second);
+    expect("the rest of the answer", answer >> 48, 0);
+    expect("the state stored", tup_record_state(table, c->cic), c->new_state);
+    expect("the flags stored", tup_record_flags(table, c->cic), c->new_flags);
+    expect("the other record", tup_record_state(table, 1 - c->cic), 99);
+}
+
+/* The group, the circuit and who controls (P9). */
+static void run_group_cases(stepper step)
+{
+    static uint8_t table[TUP_TABLE_OCTETS(TUP_CIRCUITS_MAX) + 2 * TUP_RECORD_OCTETS];
+    static const struct { const char *name; uint32_t own, far; size_t len; uint32_t cic; uint32_t refusal; } groups[] = {
+        {"all is wrong at once", 5, 5, 0, 9, 1},
+        {"65537 is not 1", 65537, 2, TUP_TABLE_OCTETS(2), 0, 1},
+        {"point code 16383", 16383, 1, TUP_TABLE_OCTETS(2), 0, 0},
+        {"own code 16384", 16384, 1, TUP_TABLE_OCTETS(2), 0, 1},
+        {"far code 16384", 1, 16384, TUP_TABLE_OCTETS(2), 0, 1},
+        {"no records", 2, 1, 0, 0, 1},
+        {"a record and a part of one", 2, 1, TUP_TABLE_OCTETS(1) + 1, 0, 1},
+        {"4096 records, the last", 2, 1, TUP_TABLE_OCTETS(4096), 4095, 0},
+        {"4096 records, beyond the last", 2, 1, TUP_TABLE_OCTETS(4096), 4096, 2},
+        {"4097 records", 2, 1, TUP_TABLE_OCTETS(4097), 0, 1},
+        {"one record, CIC 1", 2, 1, TUP_TABLE_OCTETS(1), 1, 2},
+        {"a circuit beyond 16 bits", 2, 1, TUP_TABLE_OCTETS(2), 65536, 2},
+    };
+    for (size_t i = 0; i < sizeof groups / sizeof *groups; i++) {
+        case_now = groups[i].name;
+        memset(table, 0, sizeof table);
+        uint64_t answer = step(groups[i].own, groups[i].far, table, groups[i].len, groups[i].cic, S, 0x46, 0);
+        expect("the answer", answer, groups[i].refusal ? groups[i].refusal : (uint64_t)0x17 << 32);
+    }
+    case_now = "P9 codes 2 and 1: the first controls circuit 0, not 1";
+    for (uint32_t end = 0; end < 2; end++)
+        for (uint32_t cic = 0; cic < 2; cic++) {
+            memset(table, 0, sizeof table);
+            table[TUP_RECORD_AT(cic) + TUP_RECORD_STATE] = 1;
+            uint64_t answer = step(2 - end, 1 + end, table, TUP_TABLE_OCTETS(2), cic, S, 0x11, 0);
+            expect("the state after a crossing IAM", tup_answer_state(answer), end == cic ? 1 : 6);
+        }
+}
+
+/* Messages read at own 1, far 2. `text` is hexadecimal; the fields follow where it is taken. */
+static const struct read_case {
+    const char *name, *text;
+    uint32_t count;
+    size_t out_len;
+    uint32_t refusal;
+    uint8_t fields[TUP_MESSAGE_OCTETS];
+} read_cases[] = {
+    {"P10 read", "018000300046", 4, 23, 0, {3, 0, 0x46}},
+    {"beyond the group", "018000300046", 3, 23, 2, {0}},
+    {"a wrong length comes before 2", "01800030004600", 3, 23, 7, {0}},
+    {"five octets come before the label", "0280003000", 4, 23, 7, {0}},
+    {"wrong DPC", "028000300046", 4, 23, 8, {0}},
+    {"an unknown heading comes before the length", "01800030002100", 4, 23, 9, {0}},
+    {"ACM without its octet", "018000300014", 4, 23, 7, {0}},
+    {"ACM with all bits set", "018000300014ff", 4, 23, 0, {3, 0, 0x14, 63}},
+    {"IAM of eight octets", "0180003000110a03", 4, 23, 7, {0}},
+    {"IAM with no signals", "0180003000110a0300", 4, 23, 10, {0}},
+    {"no signals come before the length", "0180003000110a03001122", 4, 23, 10, {0}},
+    {"IAM too short for its count", "0180003000110a0310", 4, 23, 7, {0}},
+    {"IAM too long for its count", "0180003000110a03100102", 4, 23, 7, {0}},
+    {"a spare code comes before 2", "0180003000110a03100a", 3, 23, 10, {0}},
+    {"one signal, spare bits and filler set", "018000300011ca0318f1", 4, 23, 0, {3, 0, 0x11, 0, 10, 3, 0, 1, 1}},
+    {"a spare code as filler", "0180003000110a0310a1", 4, 23, 0, {3, 0, 0x11, 0, 10, 3, 0, 1, 1}},
+    {"ST alone", "0180003000110a03100f", 4, 23, 0, {3, 0, 0x11, 0, 10, 3, 0, 1, 15}},
+    {"ST before the end", "0180003000110a03201f", 4, 23, 10, {0}},
+    {"ST at the end", "0180003000110a0320f1", 4, 23, 0, {3, 0, 0x11, 0, 10, 3, 0, 2, 1, 15}},
+    {"15 signals", "0180003000110a03f0214365870921436f", 4, 23, 0,
+     {3, 0, 0x11, 0, 10, 3, 0, 15, 1, 2, 3, 4, 5, 6, 7, 8, 9, 0, 1, 2, 3, 4, 15}},
+    {"output too short", "018000300046", 4, 22, 11, {0}},
+    {"no output, and beyond the group", "018000300046", 3, 0, 2, {0}},
+};
+
+static size_t from_text(const char *text, uint8_t *octets)
+{
+    size_t len = 0;
+    unsigned octet;
+    for (; sscanf(text, "%2x", &octet) == 1; text += 2)
+        octets[len++] = (uint8_t)octet;
+    return len;
+}
+
+static void run_read_case(reader read, const struct read_case *c)
+{
+    uint8_t octets[TUP_MESSAGE_MAX + 1], out[TUP_MESSAGE_OCTETS + 1], kept[TUP_MESSAGE_OCTETS + 1];
+    case_now = c->name;
+    pattern(out, sizeof out);
+    pattern(kept, sizeof kept);
+    size_t len = from_text(c->text, octets);
+    expect("the refusal", read(1, 2, c->count, octets, len, out, c->out_len), c->refusal);
+    if (c->refusal == 0)
+        memcpy(kept, c->fields, TUP_MESSAGE_OCTETS);
+    for (size_t i = 0; i < sizeof out; i++)
+        expect("an octet of the output", out[i], kept[i]);
+}
+
+/* Messages written in own 2, far 1. */
+static const struct write_case {
+    const char *name;
+    uint32_t count, cic, heading, acm, category, indicators;
+    size_t address_len;
+    uint8_t address[16];
+    size_t out_len;
+    uint32_t refusal;
+    const char *text;
+} write_cases[] = {
+    {"P10 written", 4, 3, 0x46, 0, 0, 0, 0, {0}, 6, 0, "018000300046"},
+    {"a circuit beyond the group is written", 1, 3, 0x46, 0, 0, 0, 0, {0}, 6, 0, "018000300046"},
+    {"no circuits", 0, 3, 0x46, 0, 0, 0, 0, {0}, 6, 1, ""},
+    {"CIC 4096 comes before the heading", 4, 4096, 0, 0, 0, 0, 0, {0}, 6, 2, ""},
+    {"an unknown heading comes before the fields", 4, 3, 0x21, 64, 0, 0, 0, {0}, 6, 9, ""},
+    {"heading 256 + CLF", 4, 3, 0x146, 0, 0, 0, 0, {0}, 6, 9, ""},
+    {"ACM 63", 4, 3, 0x14, 63, 0, 0, 0, {0}, 7, 0, "0180003000143f"},
+    {"ACM 64", 4, 3, 0x14, 64, 0, 0, 0, {0}, 7, 3, ""},
+    {"CLF with an ACM's octet", 4, 3, 0x46, 1, 0, 0, 0, {0}, 6, 3, ""},
+    {"CLF with an address", 4, 3, 0x46, 0, 0, 0, 1, {1}, 6, 3, ""},
+    {"category 64", 4, 3, 0x11, 0, 64, 3, 1, {1}, 17, 3, ""},
+    {"indicators 2048", 4, 3, 0x11, 0, 10, 2048, 1, {1}, 17, 3, ""},
+    {"indicators beyond 16 bits", 4, 3, 0x11, 0, 10, 65536 + 3, 1, {1}, 17, 3, ""},
+    {"3 comes before 10", 4, 3, 0x11, 0, 10, 2048, 1, {10}, 17, 3, ""},
+    {"a spare code", 4, 3, 0x11, 0, 10, 3, 1, {10}, 17, 10, ""},
+    {"no signals", 4, 3, 0x11, 0, 10, 3, 0, {0}, 17, 10, ""},
+    {"16 signals", 4, 3, 0x11, 0, 10, 3, 16, {1, 1, 1, 1, 1, 1, 1, 1, 1, 1, 1, 1, 1, 1, 1, 1}, 17, 10, ""},
+    {"16 signals, the last above 15", 4, 3, 0x11, 0, 10, 3, 16, {1, 1, 1, 1, 1, 1, 1, 1, 1, 1, 1, 1, 1, 1, 1, 16}, 17, 3, ""},
+    {"ST before the end", 4, 3, 0x11, 0, 10, 3, 2, {15, 1}, 17, 10, ""},
+    {"ST alone", 4, 3, 0x11, 0, 10, 3, 1, {15}, 10, 0, "0180003000110a03100f"},
+    {"one signal into nine octets", 4, 3, 0x11, 0, 10, 3, 1, {1}, 9, 11, ""},
+    {"15 signals", 4, 3, 0x11, 0, 10, 3, 15, {1, 2, 3, 4, 5, 6, 7, 8, 9, 0, 1, 2, 3, 4, 15}, 17, 0,
+     "0180003000110a03f0214365870921430f"},
+};
+
+static void run_write_case(writer write, const struct write_case *c)
+{
+    uint8_t out[TUP_MESSAGE_MAX + 1], kept[TUP_MESSAGE_MAX + 1];
+    case_now = c->name;
+    pattern(out, sizeof out);
+    pattern(kept, sizeof kept);
+    size_t len = from_text(c->text, kept);
+    uint32_t answer = write(2, 1, c->count, c->cic, c->heading, c->acm, c->category, c->indicators, c->address, c->address_len, out,
+                            c->out_len);
+    expect("the refusal", tup_written_refusal(answer), c->refusal);
+    expect("the length", tup_written_length(answer), len);
+    expect("the rest of the answer", answer >> 16, 0);
+    for (size_t i = 0; i < sizeof out; i++)
+        expect("an octet of the output", out[i], kept[i]);
+}
+
+static void run_all(stepper step, reader read, writer write)
+{
+    for (size_t i = 0; i < sizeof step_cases / sizeof *step_cases; i++)
+        run_step_case(step, step_cases + i);
+    run_group_cases(step);
+    for (size_t i = 0; i < sizeof read_cases / sizeof *read_cases; i++)
+        run_read_case(read, read_cases + i);
+    for (size_t i = 0; i < sizeof write_cases / sizeof *write_cases; i++)
+        run_write_case(write, write_cases + i);
+}
+
+int main(void)
+{
+    harness_begin("cases (the reference)", describe);
+    run_all(ref_step, ref_read, ref_write);
+    harness_begin("cases", describe);
+    run_all(tup_step, tup_read, tup_write);
+    covered("%zu events, %zu messages read and %zu written, and the groups", sizeof step_cases / sizeof *step_cases,
+            sizeof read_cases / sizeof *read_cases, sizeof write_cases / sizeof *write_cases);
+    return 0;
+}

@@ -1,0 +1,133 @@
+/* The shared parts of the test programs. */
+#define _GNU_SOURCE
+#include "harness.h"
+
+#include <signal.h>
+#include <stdarg.h>
+#include <stdio.h>
+#include <stdlib.h>
+#include <string.h>
+#include <sys/mman.h>
+#include <unistd.h>
+
+const uint8_t headings[HEADINGS] = {0x11, 0x14, 0x16, 0x26, 0x36, 0x46, 0x56, 0x17, 0x27, 0x37, 0x47,
+                                    0x57, 0x77, 0x15, 0x25, 0x35, 0x45, 0x55, 0x65, 0x75, 0x85, 0x95};
+
+static const char *program = "test";
+static void (*describe_call)(void);
+static uint64_t seed = 20240229;
+
+static void fail(void)
+{
+    if (describe_call)
+        describe_call();
+    fflush(stdout);
+    _exit(1);
+}
+
+/* Printing from here is safe enough: the fault is in the function under test, which prints nothing. */
+static void touched(int signal_number)
+{
+    printf("%s: signal %d, memory that was not lent was touched\n", program, signal_number);
+    fail();
+}
+
+void harness_begin(const char *name, void (*describe)(void))
+{
+    program = name;
+    describe_call = describe;
+    signal(SIGSEGV, touched);
+    signal(SIGBUS, touched);
+}
+
+void differ(const char *format, ...)
+{
+    va_list arguments;
+    va_start(arguments, format);
+    printf("%s: ", program);
+    vprintf(format, arguments);
+    printf("\n");
+    va_end(arguments);
+    fail();
+}
+
+void covered(const char *format, ...)
+{
+    va_list arguments;
+    va_start(arguments, format);
+    printf("%s: ", program);
+    vprintf(format, arguments);
+    printf("\n");
+    va_end(arguments);
+}
+
+/* Steele, Lea and Flood's SplitMix. */
+uint64_t draw64(void)
+{
+    uint64_t z = seed += 0x9E3779B97F4A7C15u;
+    z = (z ^ z >> 30) * 0xBF58476D1CE4E5B9u;
+    z = (z ^ z >> 27) * 0x94D049BB133111EBu;
+    return z ^ z >> 31;
+}
+
+uint32_t draw(uint32_t below)
+{
+    return (uint32_t)((draw64() >> 32) * below >> 32);
+}
+
+int chance(uint32_t in)
+{
+    return draw(in) == 0;
+}
+
+static uint8_t *room_view(FILE *file, int protection)
+{
+    uint8_t *around = mmap(NULL, 3 * (size_t)ROOM, PROT_NONE, MAP_PRIVATE | MAP_ANONYMOUS, -1, 0);
+    if (around == MAP_FAILED)
+        differ("no memory for a room");
+    if (mmap(around + ROOM, ROOM, protection, MAP_SHARED | MAP_FIXED, fileno(file), 0) == MAP_FAILED)
+        differ("no memory for a view of a room");
+    return around + ROOM;
+}
+
+struct room room_make(void)
+{
+    FILE *file = tmpfile();
+    if (file == NULL || ftruncate(fileno(file), ROOM) != 0)
+        differ("no file for a room");
+    struct room room = {room_view(file, PROT_READ | PROT_WRITE), room_view(file, PROT_READ)};
+    pattern(room.open, ROOM);
+    return room;
+}
+
+size_t room_at(enum place place, size_t len)
+{
+    return place == AT_START ? 0 : ROOM - len;
+}
+
+uint8_t *vast_make(void)
+{
+    void *at = sizeof(size_t) > 4 ? mmap(NULL, VAST + ROOM, PROT_READ | PROT_WRITE,
+                                         MAP_PRIVATE | MAP_ANONYMOUS | MAP_NORESERVE, -1, 0) : MAP_FAILED;
+    if (at == MAP_FAILED)
+        covered("lengths beyond 32 bits are NOT tried: no room for them here");
+    return at == MAP_FAILED ? NULL : at;
+}
+
+void pattern(uint8_t *at, size_t len)
+{
+    for (size_t i = 0; i < len; i++)
+        at[i] = (uint8_t)(0xA5 ^ i * 7);
+}
+
+uint32_t widened(uint32_t number, unsigned which)
+{
+    static const uint32_t above[WIDE] = {0, 0x100, 0x10000, 0x1000000, 0x80000000u, 0xFFFF0000u};
+    return number | above[which];
+}
+
+int long_run(void)
+{
+    const char *value = getenv("LONG");
+    return value != NULL && strcmp(value, "1") == 0;
+}

@@ -1,0 +1,50 @@
+/* What the test programs share: a way to fail that says what differed, numbers drawn from a fixed seed, and memory with an
+   unreadable stretch on either side, so that a step beyond what was lent ends the program. */
+#ifndef HARNESS_H
+#define HARNESS_H
+
+#include <stddef.h>
+#include <stdint.h>
+
+/* The 22 headings of document 01, the failures last. */
+enum { HEADINGS = 22, FAILURES_FROM = 13 };
+extern const uint8_t headings[HEADINGS];
+
+/* Names the program and the function that prints the call under way; failing prints it, touching unlent memory too. */
+void harness_begin(const char *name, void (*describe)(void));
+/* Prints what differed and the call under way, and ends the program. */
+void differ(const char *format, ...);
+/* Prints a line of what was covered. */
+void covered(const char *format, ...);
+
+uint64_t draw64(void);
+uint32_t draw(uint32_t below);
+int chance(uint32_t in);
+
+/* A stretch of octets seen twice: `open` may be written, `shut` only read. Both lie between unreadable stretches. */
+enum { ROOM = 65536 };
+struct room {
+    uint8_t *open;
+    const uint8_t *shut;
+};
+struct room room_make(void);
+
+/* Where a slice of this length begins that ends at the end of a room, or starts at its start. */
+enum place { AT_START, AT_END, PLACES };
+size_t room_at(enum place place, size_t len);
+
+/* Fills memory with octets that depend on the place only, so that two stretches filled alike stay equal unless written. */
+void pattern(uint8_t *at, size_t len);
+
+/* Memory of a length beyond 32 bits, of which no octet is touched yet; NULL where the machine has no room for it. */
+#define VAST ((size_t)1 << 32)
+uint8_t *vast_make(void);
+
+/* Numbers that a narrower parameter would take for another one: each of the given ones, and it with higher bits set. */
+enum { WIDE = 6 };
+uint32_t widened(uint32_t number, unsigned which);
+
+/* True where the environment asks for the long run. */
+int long_run(void);
+
+#endif

@@ -1,0 +1,13 @@
+// The header from C++: it compiles alone, and the archive links by the names that it gives. What is answered is cases.c's matter.
+#include "tup.h"
+
+int main()
+{
+    uint8_t table[TUP_TABLE_OCTETS(2)] = {};
+    uint8_t octets[TUP_MESSAGE_MAX], fields[TUP_MESSAGE_OCTETS];
+    uint64_t answer = tup_step(2, 1, table, sizeof table, 1, TUP_COMMAND, TUP_SEIZE, 0);
+    const uint8_t address[] = {1, 2, 3};
+    uint32_t written = tup_write(2, 1, 2, 1, tup_answer_first(answer), 0, 10, 2, address, sizeof address, octets, sizeof octets);
+    uint32_t refusal = tup_read(1, 2, 2, octets, tup_written_length(written), fields, sizeof fields);
+    return tup_record_state(table, 1) == TUP_OUT_SEIZED && refusal == TUP_ACCEPTED && fields[TUP_MESSAGE_COUNT] == 3 ? 0 : 1;
+}
