@@ -39,14 +39,15 @@ landed table cic o =
     cond (eqb (o .refusal) 0) (record { answer = taken o; table = put table cic (o .after) })
     (refusedAt (o .refusal) table cic)
 
--- one circuit's step, on this circuit's record and in our role there
-abbrev pub outcomeAt : (own far : ℕ) → List ℕ → (cic : ℕ) → Found → Outcome
-outcomeAt own far table cic event = stepFound (controls own far cic) (recordAt table cic) event
+-- a circuit of the group, c: our end controls it. 12: flags that are none; then what the step of one circuit says: 12, 3, and 5, 4 or 6
+unfoldable pub onCircuit : (c : Bool) → List ℕ → (cic : ℕ) → Found → Step
+onCircuit c table cic event =
+    cond (ltb 15 (flagsAt table cic)) (refusedAt 12 table cic)
+    (landed table cic (stepFound c (recordAt table cic) event))
 
--- 1: no such group; 2: no such circuit; 12: flags that are none; then what the circuit's step says: 12, 3, and 5, 4 or 6
+-- 1: no such group; 2: no such circuit
 unfoldable pub stepIn : (own far : ℕ) → List ℕ → (cic : ℕ) → Found → Step
 stepIn own far table cic event =
     cond (badGroup own far (recordsIn (length table))) (nowhere 1 table)
     (cond (leb (recordsIn (length table)) cic) (nowhere 2 table)
-    (cond (ltb 15 (flagsAt table cic)) (refusedAt 12 table cic)
-    (landed table cic (outcomeAt own far table cic event))))
+    (onCircuit (controls own far cic) table cic event))

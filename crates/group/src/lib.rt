@@ -7,7 +7,7 @@ use circuit::PointCode;
 use circuit::Sends;
 use codes::Found;
 ghost use mathlib.Core.Path.{_≡_};
-ghost use Rattle.group.specs.Table.{refusal, taken, stepIn};
+ghost use Rattle.group.specs.Table.{refusal, refusedAt, taken, landed, onCircuit, stepIn};
 
 // What an event on a circuit answers: the refusal's number, 0 where there is none; the record's state and flags after it; the signals; the
 // indication.
@@ -45,6 +45,43 @@ fn taken(o: Outcome) -> Answer
     }
 }
 
+// A refusal beside the circuit's record as it stands.
+fn refused_at(n: u8, table: &[u8], cic: Cic) -> Answer
+    ensures { λ r. ⌜ r ≡ refusedAt n (now (table .entry)) (cic .0) .answer ⌝ }
+{
+    let state = layout::state_at(table, cic);
+    let flags = layout::flags_at(table, cic);
+    refusal(n, state, flags)
+}
+
+// What one circuit's step says is put into the table and answered.
+fn land(table: &mut [u8], cic: Cic, o: Outcome) -> Answer
+    ensures answers { λ r. ⌜ r ≡ landed (now (table .entry)) (cic .0) o .answer ⌝ }
+    ensures leaves { λ r. ⌜ now (table .exit) ≡ landed (now (table .entry)) (cic .0) o .table ⌝ }
+{
+    if o.refusal == 0 {
+        let after = o.after;
+        layout::put(table, cic, after);
+        taken(o)
+    } else {
+        refused_at(o.refusal, table, cic)
+    }
+}
+
+// A circuit of the group, which our end controls (con) or not.
+fn on_circuit(con: bool, table: &mut [u8], cic: Cic, event: Found) -> Answer
+    ensures answers { λ r. ⌜ r ≡ onCircuit con (now (table .entry)) (cic .0) event .answer ⌝ }
+    ensures leaves { λ r. ⌜ now (table .exit) ≡ onCircuit con (now (table .entry)) (cic .0) event .table ⌝ }
+{
+    let flags = layout::flags_at(table, cic);
+    if 15 < flags {
+        return refused_at(12, table, cic);
+    }
+    let state = layout::state_at(table, cic);
+    let rec = layout::record_of(state, flags);
+    land(table, cic, step::step_found(con, rec, event))
+}
+
 // An event on a circuit of the group with these codes and this table. It takes the same time whatever the table's length.
 pub fn step(own: PointCode, far: PointCode, table: &mut [u8], cic: Cic, event: Found) -> Answer
     ensures answers { λ r. ⌜ r ≡ stepIn (own .0) (far .0) (now (table .entry)) (cic .0) event .answer ⌝ }
@@ -57,17 +94,5 @@ pub fn step(own: PointCode, far: PointCode, table: &mut [u8], cic: Cic, event: F
     if records <= cic.0 as usize {
         return refusal(2, 0, 0);
     }
-    let state = layout::state_at(table, cic);
-    let flags = layout::flags_at(table, cic);
-    if 15 < flags {
-        return refusal(12, state, flags);
-    }
-    let con = circuit::controls(own, far, cic);
-    let o = step::step_found(con, layout::record_of(state, flags), event);
-    if o.refusal == 0 {
-        let after = o.after;
-        layout::put(table, cic, after);
-        return taken(o);
-    }
-    refusal(o.refusal, state, flags)
+    on_circuit(circuit::controls(own, far, cic), table, cic, event)
 }
