@@ -1,0 +1,7 @@
+pub mod Layout
+pub mod Table
+pub mod Cases
+pub mod Refusals
+pub mod Laws
+pub mod Valid
+pub mod Roles

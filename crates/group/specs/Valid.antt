@@ -1,0 +1,123 @@
+-- A table of valid records stays one, so a group that starts idle never answers 12.
+-- Assumes nothing.
+use mathlib.Core.Path.{_≡_, refl, sym, subst, _∙_}
+use mathlib.Core.Bool.{Bool, true, false, cond}
+use mathlib.Core.List.{List}
+use Prim.Native.Nat.{ℕ, _<_, _≤_}
+use native.Mathlib.Omega.{arith}
+use lib.Dec.{T, eqb, leb, ltb}
+use lib.ListN.{length}
+use borrow.Author.Tests.{eqb-true, eqb-false, ltb-true, leb-false}
+use Rattle.circuit.specs.declared.Record.{Record}
+use Rattle.circuit.specs.declared.Event.{Event}
+use Rattle.circuit.specs.declared.Event.the-variants.{Arrives, Ordered, RunsOut}
+use Rattle.circuit.specs.Records.{valid}
+use Rattle.circuit.specs.Groups.{badGroup, controls}
+use Rattle.circuit.specs.Rows.{refused}
+use Rattle.codes.specs.declared.Found.{Found}
+use Rattle.codes.specs.declared.Found.the-variants.{Is, Missing}
+use Rattle.step.specs.Step.{step, stepFound}
+use Rattle.step.specs.Refusals.{refusal, refusalFound, allowed, runs, seizesBlocked}
+use Rattle.step.specs.Always.{kept}
+use Rattle.group.specs.Layout.{recordsIn, stateAt, flagsAt, recordOf, recordAt, put, idle, idleState, idleFlags, flagsLow, putLength, putFlags, putRecord, otherState, otherFlags, otherRecord}
+use Rattle.group.specs.Table.{Step, stepIn}
+use Rattle.group.specs.Refusals.{refusalIn}
+use Rattle.group.specs.Laws.{Same, byCases, others, keepsLength, refusals}
+
+-- a circuit's octets are a record that document 01 allows
+pub record ValidAt (table : List ℕ) (i : ℕ) : Type 0 where
+  pub flags : flagsAt table i ≤ 15
+  pub allowed : T (valid (recordAt table i))
+
+abbrev pub ValidTable : List ℕ → Type 0
+ValidTable table = (i : ℕ) → i < recordsIn (length table) → ValidAt table i
+
+-- a table that a group's events lead to from an idle one
+pub data Reached (own far : ℕ) : List ℕ → Type 0 where
+  start : (octets : ℕ) → Reached own far (idle octets)
+  next : {table : List ℕ} → Reached own far table → (cic : ℕ) (event : Found) → Reached own far (stepIn own far table cic event .table)
+
+keptFound : (c : Bool) (r : Record) (f : Found) → T (valid r) → T (valid (stepFound c r f .after))
+unfolding stepFound
+keptFound c r (Is e) v = kept c r e v
+keptFound c r Missing v = go (valid r)
+  where
+    go : (b : Bool) → T (valid (cond b (refused 3 r) (refused 12 r) .after))
+    go true = v
+    go false = v
+
+-- what is put where is valid keeps the table so
+putValid : (table : List ℕ) (cic : ℕ) (r : Record) → ValidTable table → cic < recordsIn (length table) → T (valid r) → ValidTable (put table cic r)
+putValid table cic r v h ok i k = go (eqb i cic) refl
+  where
+    go : (b : Bool) → eqb i cic ≡ b → ValidAt (put table cic r) i
+    go true e =
+        rw (eqb-true i cic e)
+        (record { flags = rw (putFlags table cic r h) (flagsLow r); allowed = rw (putRecord table cic r h) ok })
+    go false e =
+        let was : ValidAt table i = v i (rw putLength at k) in
+        let other : i ≡ cic → ⊥ = eqb-false i cic e in
+        record { flags = rw (otherFlags table cic i r other) (was .flags); allowed = rw (otherRecord table cic i r other) (was .allowed) }
+
+-- none of an event's own refusals is 12
+low : (r : Record) (e : Event) → refusal r e ≤ 6
+low r (Arrives s) = omega arith
+low r (Ordered k) = go (allowed r k) (seizesBlocked r k)
+  where
+    go : (a b : Bool) → cond a 0 (cond b 4 5) ≤ 6
+    go true b = omega arith
+    go false true = omega arith
+    go false false = omega arith
+low r (RunsOut t) = go (runs r t)
+  where
+    go : (a : Bool) → cond a 0 6 ≤ 6
+    go true = omega arith
+    go false = omega arith
+
+not12 : (r : Record) (f : Found) → T (valid r) → refusalFound r f ≡ 12 → ⊥
+not12 r (Is e) v h = go (valid r) v h
+  where
+    go : (b : Bool) → T b → cond b (refusal r e) 12 ≡ 12 → ⊥
+    go true t h = omega (arith, low r e)
+    go false t h = t
+not12 r Missing v h = go (valid r) v h
+  where
+    go : (b : Bool) → T b → _≡_ {A = ℕ} (cond b 3 12) 12 → ⊥
+    go true t h = omega arith
+    go false t h = t
+
+module _ (own far : ℕ) (table : List ℕ) (cic : ℕ) (event : Found) (v : ValidTable table) where
+  pub staysValid : ValidTable (stepIn own far table cic event .table)
+  staysValid =
+      byCases own far table cic event (λ s. ValidTable (s .table)) v v (λ n h. v)
+      (λ h l a. putValid table cic _ v h (keptFound (controls own far cic) (recordAt table cic) event (v cic h .allowed)))
+
+  pub not12In : stepIn own far table cic event .answer .refusal ≡ 12 → ⊥
+  not12In e = go₁ (badGroup own far (recordsIn (length table))) (sym (refusals own far table cic event) ∙ e)
+    where
+      n : ℕ
+      n = refusalFound (recordAt table cic) event
+
+      go₁₂ : ValidAt table cic → (b : Bool) → ltb 15 (flagsAt table cic) ≡ b → cond b 12 n ≡ 12 → ⊥
+      go₁₂ w true e h = omega (arith, ltb-true 15 (flagsAt table cic) e, w .flags)
+      go₁₂ w false e h = not12 (recordAt table cic) event (w .allowed) h
+
+      go₂ : (b : Bool) → leb (recordsIn (length table)) cic ≡ b → cond b 2 (cond (ltb 15 (flagsAt table cic)) 12 n) ≡ 12 → ⊥
+      go₂ true e h = omega arith
+      go₂ false e h = go₁₂ (v cic (leb-false _ _ e)) (ltb 15 (flagsAt table cic)) refl h
+
+      go₁ : (b : Bool) → cond b 1 (cond (leb (recordsIn (length table)) cic) 2 (cond (ltb 15 (flagsAt table cic)) 12 n)) ≡ 12 → ⊥
+      go₁ true h = omega arith
+      go₁ false h = go₂ (leb (recordsIn (length table)) cic) refl h
+
+idleValid : (octets : ℕ) → ValidTable (idle octets)
+unfolding recordOf
+idleValid octets i h = record { flags = rw (idleFlags octets i) (omega arith); allowed = rw (idleState octets i, idleFlags octets i) tt }
+
+pub reachedValid : {own far : ℕ} {table : List ℕ} → Reached own far table → ValidTable table
+reachedValid (start octets) = idleValid octets
+reachedValid {own} {far} (next {table} r cic event) = staysValid own far table cic event (reachedValid r)
+
+-- a group that starts idle never answers 12
+pub never12 : {own far : ℕ} {table : List ℕ} → Reached own far table → (cic : ℕ) (event : Found) → stepIn own far table cic event .answer .refusal ≡ 12 → ⊥
+never12 {own} {far} {table} r cic event = not12In own far table cic event (reachedValid r)

@@ -1,0 +1,52 @@
+// The entries for a host in C, on numbers and octets. Every number crosses as 32 bits and is tested inside, so that none is cut to fit.
+use circuit::Cic;
+use circuit::PointCode;
+use group::Answer;
+ghost use mathlib.Core.Path.{_≡_};
+ghost use Prim.Native.Nat.{_<_};
+ghost use Rattle.codes.specs.Numbers.{eventOf};
+ghost use Rattle.group.specs.Table.{stepIn};
+ghost use Rattle.tup.specs.Packed.{octets, packed, Unpacks, Unpacked};
+
+fn wide(x: u8) -> u64
+    ensures { λ r. ⌜ (r ≡ x) × (r < 256) ⌝ }
+{
+    x as u64
+}
+
+fn octets(a: u8, b: u8, c: u8, d: u8, e: u8, f: u8) -> u64
+    ensures packs { λ r. ⌜ r ≡ octets a b c d e f ⌝ }
+    ensures unpacks { λ r. ⌜ Unpacks r a b c d e f ⌝ }
+{
+    wide(a) + 256 * (wide(b) + 256 * (wide(c) + 256 * (wide(d) + 256 * (wide(e) + 256 * wide(f)))))
+}
+
+fn pack(a: Answer) -> u64
+    ensures packs { λ r. ⌜ r ≡ packed a ⌝ }
+    ensures unpacks { λ r. ⌜ Unpacked r a ⌝ }
+{
+    let sends = a.sends;
+    let first = codes::first_heading(sends);
+    let second = codes::second_heading(sends);
+    octets(a.refusal, a.ind, a.state, a.flags, first, second)
+}
+
+// An event on a circuit of a group: own and far point code, the group's table of records, the circuit; the event by its kind (1 signal,
+// 2 command, 3 timer), its code and its detail. The answer is packed into one number.
+#[no_mangle]
+pub extern "C" fn tup_step(
+    own: u32,
+    far: u32,
+    table: &mut [u8],
+    cic: u32,
+    kind: u32,
+    code: u32,
+    detail: u32,
+) -> u64
+    ensures answers { λ r. ⌜ r ≡ packed (stepIn own far (now (table .entry)) cic (eventOf kind code detail) .answer) ⌝ }
+    ensures unpacks { λ r. ⌜ Unpacked r (stepIn own far (now (table .entry)) cic (eventOf kind code detail) .answer) ⌝ }
+    ensures leaves { λ r. ⌜ now (table .exit) ≡ stepIn own far (now (table .entry)) cic (eventOf kind code detail) .table ⌝ }
+{
+    let event = codes::event_of(kind, code, detail);
+    pack(group::step(PointCode(own), PointCode(far), table, Cic(cic), event))
+}
