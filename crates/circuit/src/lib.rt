@@ -2,10 +2,8 @@
 // event answers, and what a row of a printed table means. No rule of the gateway stands here: those are in `signals`, `commands` and `step`.
 ghost use mathlib.Core.Path.{_≡_};
 ghost use mathlib.Core.Bool.{_&&_, _||_};
-ghost use mathlib.Core.List.{[], _∷_};
 ghost use Rattle.circuit.specs.Records.{flagsAllowed, onlyFar, valid};
 ghost use Rattle.circuit.specs.Groups.{badCode, badGroup, controls};
-ghost use Rattle.circuit.specs.Rows.{fits, done, orElse, first, otherwise, refused};
 
 // A point code (0..16383) and a circuit number (CIC, 0..4095) are separate things: one never stands for the other. Each holds any 32-bit
 // number, so that a number which is out of range arrives here as it is and is refused.
@@ -111,9 +109,6 @@ pub struct Outcome {
     pub ind: u8,
 }
 
-// The refusal's number where there is none.
-const ACCEPTED: u8 = 0;
-
 // A row of a printed table: its first and its last state, its further condition; what is sent, the new record, the indication.
 pub struct Row(pub u8, pub u8, pub bool, pub Sends, pub Record, pub u8);
 
@@ -179,104 +174,4 @@ pub fn valid(rec: Record) -> bool
         rec.state <= 12,
         both(flags_allowed(rec), either(rec.state < 12, only_far(rec))),
     )
-}
-
-// A refusal keeps the record, sends nothing and gives indication 0.
-pub fn refused(n: u8, rec: Record) -> Outcome
-    ensures { λ r. ⌜ r ≡ refused n rec ⌝ }
-{
-    Outcome {
-        refusal: n,
-        after: rec,
-        sends: Sends::Nothing,
-        ind: 0,
-    }
-}
-
-// What is answered where no row fits: a refusal, or for 0 that the signal is discarded.
-fn otherwise(unmet: u8, rec: Record) -> Outcome
-    ensures { λ r. ⌜ r ≡ otherwise unmet rec ⌝ }
-{
-    if unmet == 0 {
-        Outcome {
-            refusal: ACCEPTED,
-            after: rec,
-            sends: Sends::Nothing,
-            ind: 7,
-        }
-    } else {
-        refused(unmet, rec)
-    }
-}
-
-fn fits(s: u8, w: Row) -> bool
-    ensures { λ r. ⌜ r ≡ fits s w ⌝ }
-{
-    both(both(w.0 <= s, s <= w.1), w.2)
-}
-
-fn done(w: Row) -> Outcome
-    ensures { λ r. ⌜ r ≡ done w ⌝ }
-{
-    let sends = w.3;
-    let after = w.4;
-    Outcome {
-        refusal: ACCEPTED,
-        after: after,
-        sends: sends,
-        ind: w.5,
-    }
-}
-
-// The row's answer where it fits the state, else the other answer.
-fn or_else(s: u8, w: Row, other: Outcome) -> Outcome
-    ensures { λ r. ⌜ r ≡ orElse s w other ⌝ }
-{
-    if fits(s, w) { done(w) } else { other }
-}
-
-// The first of some rows that fits the record's state, and where none does what `unmet` says.
-pub fn rows1(rec: Record, w1: Row, unmet: u8) -> Outcome
-    ensures { λ r. ⌜ r ≡ first (rec .state) (w1 ∷ []) (otherwise unmet rec) ⌝ }
-{
-    or_else(rec.state, w1, otherwise(unmet, rec))
-}
-
-pub fn rows2(rec: Record, w1: Row, w2: Row, unmet: u8) -> Outcome
-    ensures { λ r. ⌜ r ≡ first (rec .state) (w1 ∷ w2 ∷ []) (otherwise unmet rec) ⌝ }
-{
-    or_else(rec.state, w1, rows1(rec, w2, unmet))
-}
-
-pub fn rows3(rec: Record, w1: Row, w2: Row, w3: Row, unmet: u8) -> Outcome
-    ensures { λ r. ⌜ r ≡ first (rec .state) (w1 ∷ w2 ∷ w3 ∷ []) (otherwise unmet rec) ⌝ }
-{
-    or_else(rec.state, w1, rows2(rec, w2, w3, unmet))
-}
-
-pub fn rows4(rec: Record, w1: Row, w2: Row, w3: Row, w4: Row, unmet: u8) -> Outcome
-    ensures { λ r. ⌜ r ≡ first (rec .state) (w1 ∷ w2 ∷ w3 ∷ w4 ∷ []) (otherwise unmet rec) ⌝ }
-{
-    or_else(rec.state, w1, rows3(rec, w2, w3, w4, unmet))
-}
-
-pub fn rows5(rec: Record, w1: Row, w2: Row, w3: Row, w4: Row, w5: Row, unmet: u8) -> Outcome
-    ensures { λ r. ⌜ r ≡ first (rec .state) (w1 ∷ w2 ∷ w3 ∷ w4 ∷ w5 ∷ []) (otherwise unmet rec) ⌝ }
-{
-    or_else(rec.state, w1, rows4(rec, w2, w3, w4, w5, unmet))
-}
-
-pub fn rows6(
-    rec: Record,
-    w1: Row,
-    w2: Row,
-    w3: Row,
-    w4: Row,
-    w5: Row,
-    w6: Row,
-    unmet: u8,
-) -> Outcome
-    ensures { λ r. ⌜ r ≡ first (rec .state) (w1 ∷ w2 ∷ w3 ∷ w4 ∷ w5 ∷ w6 ∷ []) (otherwise unmet rec) ⌝ }
-{
-    or_else(rec.state, w1, rows5(rec, w2, w3, w4, w5, w6, unmet))
 }

@@ -46,7 +46,7 @@ fn seize_refusal(rec: Record) -> u8
 fn seize(rec: Record) -> Outcome
     ensures { λ r. ⌜ r ≡ onCommand rec Command.Seize ⌝ }
 {
-    circuit::rows1(
+    rows::rows1(
         rec,
         Row(0, 0, !rec.far, One(Iam), Record { state: 1, ..rec }, 0),
         seize_refusal(rec),
@@ -56,7 +56,7 @@ fn seize(rec: Record) -> Outcome
 fn release(rec: Record) -> Outcome
     ensures { λ r. ⌜ r ≡ onCommand rec Command.Release ⌝ }
 {
-    circuit::rows1(
+    rows::rows1(
         rec,
         Row(1, 4, true, One(Clf), Record { state: 5, ..rec }, 0),
         5,
@@ -96,7 +96,7 @@ fn address_complete(rec: Record, t: AddressType, free: bool) -> Outcome
     let octet = complete_octet(t, free);
     let state = proceeding(free);
     let after = Record { state, ..rec };
-    circuit::rows1(rec, Row(6, 6, true, One(Acm(octet)), after, 0), 5)
+    rows::rows1(rec, Row(6, 6, true, One(Acm(octet)), after, 0), 5)
 }
 
 fn answer_signal(charging: Charging) -> Signal
@@ -112,7 +112,7 @@ fn answer(rec: Record, charging: Charging) -> Outcome
     ensures { λ r. ⌜ r ≡ onCommand rec (Command.Answer charging) ⌝ }
 {
     let signal = answer_signal(charging);
-    circuit::rows1(
+    rows::rows1(
         rec,
         Row(7, 8, true, One(signal), Record { state: 9, ..rec }, 0),
         5,
@@ -122,7 +122,7 @@ fn answer(rec: Record, charging: Charging) -> Outcome
 fn clear_back(rec: Record) -> Outcome
     ensures { λ r. ⌜ r ≡ onCommand rec Command.ClearBack ⌝ }
 {
-    circuit::rows1(
+    rows::rows1(
         rec,
         Row(9, 9, true, One(Cbk), Record { state: 10, ..rec }, 0),
         5,
@@ -132,7 +132,7 @@ fn clear_back(rec: Record) -> Outcome
 fn re_answer(rec: Record) -> Outcome
     ensures { λ r. ⌜ r ≡ onCommand rec Command.ReAnswer ⌝ }
 {
-    circuit::rows1(
+    rows::rows1(
         rec,
         Row(10, 10, true, One(Ran), Record { state: 9, ..rec }, 0),
         5,
@@ -159,7 +159,7 @@ fn fail_call(rec: Record, f: Failure) -> Outcome
     ensures { λ r. ⌜ r ≡ onCommand rec (Command.FailCall f) ⌝ }
 {
     let failed = Record { state: 11, ..rec };
-    circuit::rows2(
+    rows::rows2(
         rec,
         Row(6, 6, true, One(Fail(f)), failed, 0),
         Row(7, 7, late(f), One(Fail(f)), failed, 0),
@@ -176,7 +176,7 @@ fn block(rec: Record) -> Outcome
         uba: false,
         ..rec
     };
-    circuit::rows1(rec, Row(0, 11, !rec.own, One(Blo), blocked, 0), 5)
+    rows::rows1(rec, Row(0, 11, !rec.own, One(Blo), blocked, 0), 5)
 }
 
 fn unblock(rec: Record) -> Outcome
@@ -188,13 +188,13 @@ fn unblock(rec: Record) -> Outcome
         uba: true,
         ..rec
     };
-    circuit::rows1(rec, Row(0, 12, rec.own, One(Ubl), unblocked, 0), 5)
+    rows::rows1(rec, Row(0, 12, rec.own, One(Ubl), unblocked, 0), 5)
 }
 
 fn restart(rec: Record) -> Outcome
     ensures { λ r. ⌜ r ≡ onCommand rec Command.Restart ⌝ }
 {
-    circuit::rows1(rec, Row(0, 12, true, One(Rsc), RESTARTED, 0), 5)
+    rows::rows1(rec, Row(0, 12, true, One(Rsc), RESTARTED, 0), 5)
 }
 
 pub fn on_command(rec: Record, k: Command) -> Outcome
@@ -217,7 +217,7 @@ pub fn on_command(rec: Record, k: Command) -> Outcome
 fn address_wait(rec: Record) -> Outcome
     ensures { λ r. ⌜ r ≡ onTimer rec Timer.AddressWait ⌝ }
 {
-    circuit::rows1(
+    rows::rows1(
         rec,
         Row(1, 1, true, One(Clf), Record { state: 5, ..rec }, 10),
         6,
@@ -228,7 +228,7 @@ fn answer_wait(rec: Record) -> Outcome
     ensures { λ r. ⌜ r ≡ onTimer rec Timer.AnswerWait ⌝ }
 {
     let released = Record { state: 5, ..rec };
-    circuit::rows2(
+    rows::rows2(
         rec,
         Row(2, 2, true, One(Clf), released, 10),
         Row(4, 4, true, One(Clf), released, 10),
@@ -239,7 +239,7 @@ fn answer_wait(rec: Record) -> Outcome
 fn incoming_hang_up(rec: Record) -> Outcome
     ensures { λ r. ⌜ r ≡ onTimer rec Timer.IncomingHangUp ⌝ }
 {
-    circuit::rows1(
+    rows::rows1(
         rec,
         Row(
             10,
@@ -256,7 +256,7 @@ fn incoming_hang_up(rec: Record) -> Outcome
 fn repeat(rec: Record) -> Outcome
     ensures { λ r. ⌜ r ≡ onTimer rec Timer.Repeat ⌝ }
 {
-    circuit::rows3(
+    rows::rows3(
         rec,
         Row(5, 5, true, One(Clf), rec, 0),
         Row(11, 11, true, One(Fail(Failure::Cfl)), rec, 0),
@@ -269,7 +269,7 @@ fn one_minute(rec: Record) -> Outcome
     ensures { λ r. ⌜ r ≡ onTimer rec Timer.OneMinute ⌝ }
 {
     let reset = RESTARTED;
-    circuit::rows3(
+    rows::rows3(
         rec,
         Row(5, 5, true, One(Rsc), reset, 8),
         Row(11, 11, true, One(Rsc), reset, 8),
@@ -281,7 +281,7 @@ fn one_minute(rec: Record) -> Outcome
 fn block_repeat(rec: Record) -> Outcome
     ensures { λ r. ⌜ r ≡ onTimer rec Timer.BlockRepeat ⌝ }
 {
-    circuit::rows2(
+    rows::rows2(
         rec,
         Row(0, 12, rec.bla, One(Blo), rec, 0),
         Row(0, 12, rec.uba, One(Ubl), rec, 0),

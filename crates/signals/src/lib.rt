@@ -24,7 +24,7 @@ fn on_iam(con: bool, rec: Record) -> Outcome
         bla: true,
         ..rec
     };
-    circuit::rows4(
+    rows::rows4(
         rec,
         Row(0, 0, !rec.own, Nothing, Record { state: 6, ..rec }, 1),
         Row(0, 0, rec.own, One(Blo), awaiting, 7),
@@ -37,7 +37,7 @@ fn on_iam(con: bool, rec: Record) -> Outcome
 fn on_acm(con: bool, rec: Record, octet: u8) -> Outcome
     ensures { λ r. ⌜ r ≡ onSignal con rec (Signal.Acm octet) ⌝ }
 {
-    circuit::rows1(
+    rows::rows1(
         rec,
         Row(1, 1, true, Nothing, Record { state: 2, ..rec }, 2),
         0,
@@ -47,7 +47,7 @@ fn on_acm(con: bool, rec: Record, octet: u8) -> Outcome
 fn on_anc(con: bool, rec: Record) -> Outcome
     ensures { λ r. ⌜ r ≡ onSignal con rec Signal.Anc ⌝ }
 {
-    circuit::rows1(
+    rows::rows1(
         rec,
         Row(2, 2, true, Nothing, Record { state: 3, ..rec }, 3),
         0,
@@ -57,7 +57,7 @@ fn on_anc(con: bool, rec: Record) -> Outcome
 fn on_ann(con: bool, rec: Record) -> Outcome
     ensures { λ r. ⌜ r ≡ onSignal con rec Signal.Ann ⌝ }
 {
-    circuit::rows1(
+    rows::rows1(
         rec,
         Row(2, 2, true, Nothing, Record { state: 3, ..rec }, 3),
         0,
@@ -67,7 +67,7 @@ fn on_ann(con: bool, rec: Record) -> Outcome
 fn on_cbk(con: bool, rec: Record) -> Outcome
     ensures { λ r. ⌜ r ≡ onSignal con rec Signal.Cbk ⌝ }
 {
-    circuit::rows1(
+    rows::rows1(
         rec,
         Row(3, 3, true, Nothing, Record { state: 4, ..rec }, 4),
         0,
@@ -77,7 +77,7 @@ fn on_cbk(con: bool, rec: Record) -> Outcome
 fn on_ran(con: bool, rec: Record) -> Outcome
     ensures { λ r. ⌜ r ≡ onSignal con rec Signal.Ran ⌝ }
 {
-    circuit::rows1(
+    rows::rows1(
         rec,
         Row(4, 4, true, Nothing, Record { state: 3, ..rec }, 3),
         0,
@@ -87,7 +87,7 @@ fn on_ran(con: bool, rec: Record) -> Outcome
 fn on_fail(con: bool, rec: Record, f: Failure) -> Outcome
     ensures { λ r. ⌜ r ≡ onSignal con rec (Signal.Fail f) ⌝ }
 {
-    circuit::rows1(
+    rows::rows1(
         rec,
         Row(1, 4, true, One(Clf), Record { state: 5, ..rec }, 10),
         0,
@@ -98,7 +98,7 @@ fn on_clf(con: bool, rec: Record) -> Outcome
     ensures { λ r. ⌜ r ≡ onSignal con rec Signal.Clf ⌝ }
 {
     let idle = Record { state: 0, ..rec };
-    circuit::rows5(
+    rows::rows5(
         rec,
         Row(0, 0, true, One(Rlg), idle, 0),
         Row(1, 1, !con, One(Rlg), idle, 6),
@@ -113,7 +113,7 @@ fn on_rlg(con: bool, rec: Record) -> Outcome
     ensures { λ r. ⌜ r ≡ onSignal con rec Signal.Rlg ⌝ }
 {
     let idle = Record { state: 0, ..rec };
-    circuit::rows2(
+    rows::rows2(
         rec,
         Row(5, 5, true, Nothing, idle, 5),
         Row(12, 12, true, Nothing, idle, 5),
@@ -165,7 +165,7 @@ fn rsc_row(rec: Record, low: u8, high: u8, sends: Sends, new: u8, ind: u8) -> Ro
 fn on_rsc(con: bool, rec: Record) -> Outcome
     ensures { λ r. ⌜ r ≡ onSignal con rec Signal.Rsc ⌝ }
 {
-    circuit::rows6(
+    rows::rows6(
         rec,
         rsc_row(rec, 0, 0, One(Rlg), 0, 0),
         rsc_row(rec, 1, 1, One(Clf), 5, 6),
@@ -185,7 +185,7 @@ fn on_blo(con: bool, rec: Record) -> Outcome
         far: true,
         ..rec
     };
-    circuit::rows2(
+    rows::rows2(
         rec,
         Row(1, 1, true, Two(Bla, Clf), released, 6),
         Row(0, 12, true, One(Bla), Record { far: true, ..rec }, 0),
@@ -196,7 +196,7 @@ fn on_blo(con: bool, rec: Record) -> Outcome
 fn on_ubl(con: bool, rec: Record) -> Outcome
     ensures { λ r. ⌜ r ≡ onSignal con rec Signal.Ubl ⌝ }
 {
-    circuit::rows1(
+    rows::rows1(
         rec,
         Row(0, 12, true, One(Uba), Record { far: false, ..rec }, 0),
         0,
@@ -206,7 +206,7 @@ fn on_ubl(con: bool, rec: Record) -> Outcome
 fn on_bla(con: bool, rec: Record) -> Outcome
     ensures { λ r. ⌜ r ≡ onSignal con rec Signal.Bla ⌝ }
 {
-    circuit::rows1(
+    rows::rows1(
         rec,
         Row(0, 12, rec.bla, Nothing, Record { bla: false, ..rec }, 0),
         0,
@@ -216,7 +216,7 @@ fn on_bla(con: bool, rec: Record) -> Outcome
 fn on_uba(con: bool, rec: Record) -> Outcome
     ensures { λ r. ⌜ r ≡ onSignal con rec Signal.Uba ⌝ }
 {
-    circuit::rows1(
+    rows::rows1(
         rec,
         Row(0, 12, rec.uba, Nothing, Record { uba: false, ..rec }, 0),
         0,

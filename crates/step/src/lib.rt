@@ -23,7 +23,7 @@ pub fn step(con: bool, rec: Record, e: Event) -> Outcome
     if circuit::valid(rec) {
         by_tables(con, rec, e)
     } else {
-        circuit::refused(12, rec)
+        rows::refused(12, rec)
     }
 }
 
@@ -31,9 +31,9 @@ fn missing(con: bool, rec: Record) -> Outcome
     ensures { λ r. ⌜ r ≡ stepFound con rec Found.Missing ⌝ }
 {
     if circuit::valid(rec) {
-        circuit::refused(3, rec)
+        rows::refused(3, rec)
     } else {
-        circuit::refused(12, rec)
+        rows::refused(12, rec)
     }
 }
 

@@ -1,9 +1,9 @@
--- `circuit::rows3` meets its contract.
+-- `rows::rows3` meets its contract.
 -- Assumes nothing.
 use Rattle.circuit.specs.Rows.{first}
 use borrow.Author.Needs.{needs}
-use Rattle.circuit.proofs.rows3.Statement.{statement}
-use Rattle.circuit.proofs.rows3.Tie as tie
+use Rattle.rows.proofs.rows3.Statement.{statement}
+use Rattle.rows.proofs.rows3.Tie as tie
 
 rows2-requires : tie.Need-rows2-requires
 rows2-requires c κs = search needs

@@ -1,9 +1,9 @@
--- `circuit::rows6` meets its contract.
+-- `rows::rows6` meets its contract.
 -- Assumes nothing.
 use Rattle.circuit.specs.Rows.{first}
 use borrow.Author.Needs.{needs}
-use Rattle.circuit.proofs.rows6.Statement.{statement}
-use Rattle.circuit.proofs.rows6.Tie as tie
+use Rattle.rows.proofs.rows6.Statement.{statement}
+use Rattle.rows.proofs.rows6.Tie as tie
 
 rows5-requires : tie.Need-rows5-requires
 rows5-requires c κs = search needs

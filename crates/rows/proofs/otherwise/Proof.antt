@@ -1,9 +1,9 @@
--- `circuit::otherwise` meets its contract.
+-- `rows::otherwise` meets its contract.
 -- Assumes nothing.
 use borrow.Author.Tests.{eq-eqb, ne-eqb}
 use borrow.Author.Needs.{needs}
-use Rattle.circuit.proofs.otherwise.Statement.{statement}
-use Rattle.circuit.proofs.otherwise.Tie as tie
+use Rattle.rows.proofs.otherwise.Statement.{statement}
+use Rattle.rows.proofs.otherwise.Tie as tie
 
 refused-requires : tie.Need-refused-requires
 refused-requires c κs = search needs

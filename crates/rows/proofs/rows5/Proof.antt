@@ -1,9 +1,9 @@
--- `circuit::rows5` meets its contract.
+-- `rows::rows5` meets its contract.
 -- Assumes nothing.
 use Rattle.circuit.specs.Rows.{first}
 use borrow.Author.Needs.{needs}
-use Rattle.circuit.proofs.rows5.Statement.{statement}
-use Rattle.circuit.proofs.rows5.Tie as tie
+use Rattle.rows.proofs.rows5.Statement.{statement}
+use Rattle.rows.proofs.rows5.Tie as tie
 
 rows4-requires : tie.Need-rows4-requires
 rows4-requires c κs = search needs

@@ -1,8 +1,8 @@
--- `circuit::or_else` meets its contract.
+-- `rows::or_else` meets its contract.
 -- Assumes nothing.
 use borrow.Author.Needs.{needs}
-use Rattle.circuit.proofs.or_else.Statement.{statement}
-use Rattle.circuit.proofs.or_else.Tie as tie
+use Rattle.rows.proofs.or_else.Statement.{statement}
+use Rattle.rows.proofs.or_else.Tie as tie
 
 fits-requires : tie.Need-fits-requires
 fits-requires c κs = search needs

@@ -1,9 +1,9 @@
--- `circuit::rows2` meets its contract.
+-- `rows::rows2` meets its contract.
 -- Assumes nothing.
 use Rattle.circuit.specs.Rows.{first}
 use borrow.Author.Needs.{needs}
-use Rattle.circuit.proofs.rows2.Statement.{statement}
-use Rattle.circuit.proofs.rows2.Tie as tie
+use Rattle.rows.proofs.rows2.Statement.{statement}
+use Rattle.rows.proofs.rows2.Tie as tie
 
 rows1-requires : tie.Need-rows1-requires
 rows1-requires c κs = search needs

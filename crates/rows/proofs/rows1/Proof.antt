@@ -1,9 +1,9 @@
--- `circuit::rows1` meets its contract.
+-- `rows::rows1` meets its contract.
 -- Assumes nothing.
 use Rattle.circuit.specs.Rows.{first}
 use borrow.Author.Needs.{needs}
-use Rattle.circuit.proofs.rows1.Statement.{statement}
-use Rattle.circuit.proofs.rows1.Tie as tie
+use Rattle.rows.proofs.rows1.Statement.{statement}
+use Rattle.rows.proofs.rows1.Tie as tie
 
 otherwise-requires : tie.Need-otherwise-requires
 otherwise-requires c κs = search needs

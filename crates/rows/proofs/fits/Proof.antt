@@ -1,8 +1,8 @@
--- `circuit::fits` meets its contract.
+-- `rows::fits` meets its contract.
 -- Assumes nothing.
 use borrow.Author.Needs.{needs}
-use Rattle.circuit.proofs.fits.Statement.{statement}
-use Rattle.circuit.proofs.fits.Tie as tie
+use Rattle.rows.proofs.fits.Statement.{statement}
+use Rattle.rows.proofs.fits.Tie as tie
 
 both-requires : tie.Need-both-requires
 both-requires c κs = search needs

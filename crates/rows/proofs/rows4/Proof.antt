@@ -1,9 +1,9 @@
--- `circuit::rows4` meets its contract.
+-- `rows::rows4` meets its contract.
 -- Assumes nothing.
 use Rattle.circuit.specs.Rows.{first}
 use borrow.Author.Needs.{needs}
-use Rattle.circuit.proofs.rows4.Statement.{statement}
-use Rattle.circuit.proofs.rows4.Tie as tie
+use Rattle.rows.proofs.rows4.Statement.{statement}
+use Rattle.rows.proofs.rows4.Tie as tie
 
 rows3-requires : tie.Need-rows3-requires
 rows3-requires c κs = search needs
