@@ -1,0 +1,4 @@
+pub mod Refusals
+pub mod Octets
+pub mod Messages
+pub mod Reading
