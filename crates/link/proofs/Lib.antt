@@ -1,3 +1,6 @@
 pub mod Signals
 pub mod Lengths
 pub mod Bodies
+pub mod Stores
+pub mod Tests
+pub mod Writes

@@ -1,6 +1,6 @@
 -- Address signals one after the other: what a loop over them has seen, and where each lies in its octet.
 -- Assumes nothing.
-use mathlib.Core.Path.{_≡_, refl, sym, ap, _∙_}
+use mathlib.Core.Path.{_≡_, refl, sym, ap, _∙_, subst}
 use mathlib.Core.Bool.{Bool, true, false, cond, _||_}
 use mathlib.Core.List.{List, [], _∷_, _++_}
 use Prim.Native.Nat.{ℕ, zero, suc, _+_, _*_, _-_, _/_, _%_, _<_, _≤_}
@@ -8,10 +8,10 @@ use native.Mathlib.Nat.{zero-add}
 use native.Mathlib.Numerals.{add-one}
 use native.Mathlib.Omega.{arith}
 use borrow.Author.Tests.{ltb-true, ltb-false, lt-ltb, le-ltb}
-use lib.Dec.{eqb, ltb}
+use lib.Dec.{T, eqb, ltb}
 use lib.ListN.{length, getD, take, drop, set, length-drop, drop-of-length-le}
 use lib.Seq.{drop-cons, getD-drop, paste, paste-suc, length-take-le}
-use Rattle.link.specs.Octets.{someSignal, halves, over}
+use Rattle.link.specs.Octets.{someSignal, aboveFifteen, halves, over}
 use Rattle.link.specs.Messages.{half}
 use Rattle.link.specs.Reading.{noCodes}
 
@@ -77,3 +77,17 @@ read-all xs n i h a b codes p =
     let l : length (drop 9 xs) ≡ length xs - 9 = length-drop 9 xs in
     p ∙ ap (paste noCodes 0 (halves (drop 9 xs))) same
     ∙ rw (length-take-le n (halves (drop 9 xs)) (omega (arith, length-halves (drop 9 xs))), zero-add n)
+
+-- none of them is above 15
+pub at-most : (s : List ℕ) (i : ℕ) → aboveFifteen s ≡ false → i < length s → getD s i 0 ≤ 15
+at-most [] i e h = absurd (omega arith)
+at-most (code ∷ rest) i e h = go (ltb 15 code) refl i h (λ k q r. at-most rest k q r)
+  where
+    after : (b : Bool) → ltb 15 code ≡ b → (b || aboveFifteen rest) ≡ false
+    after b p = sym (ap (λ (b : Bool). b || aboveFifteen rest) p) ∙ e
+
+    go : (b : Bool) → ltb 15 code ≡ b → (i : ℕ) → i < suc (length rest) → ((k : ℕ) → aboveFifteen rest ≡ false → k < length rest → getD rest k 0 ≤ 15)
+        → getD (code ∷ rest) i 0 ≤ 15
+    go true p i h more = absurd (subst T (after true p) tt)
+    go false p zero h more = ltb-false 15 code p
+    go false p (suc i) h more = more i (after false p) (omega arith)

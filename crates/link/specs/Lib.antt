@@ -2,3 +2,4 @@ pub mod Refusals
 pub mod Octets
 pub mod Messages
 pub mod Reading
+pub mod Writing
