@@ -4,3 +4,4 @@ pub mod Bodies
 pub mod Stores
 pub mod Tests
 pub mod Writes
+pub mod Entries

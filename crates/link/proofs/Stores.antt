@@ -70,3 +70,9 @@ module _ (cs buffer : List ℕ) (room : 9 + half (length cs) ≤ length buffer) 
 
   pub pairs-even : j ≤ length cs / 2 → length cs / 2 ≤ j → (length cs % 2 ≡ 1 → ⊥) → now ≡ paste buffer 9 (pairs cs) (half (length cs))
   pairs-even a b o = let n : j ≡ half (length cs) = omega arith in is ∙ ap (paste buffer 9 (pairs cs)) n
+
+-- a turn of the loop that stores fifteen codes
+pub codes-more : (codes buffer : List ℕ) → 23 ≤ length buffer → length codes ≡ 15 → (i : ℕ) (now : List ℕ) → now ≡ paste buffer 8 codes i → i < 15
+    → set now (8 + i) (getD codes i 0) ≡ paste buffer 8 codes (i + 1)
+codes-more codes buffer room n i now is h =
+    ap (λ (l : List ℕ). set l (8 + i) (getD codes i 0)) is ∙ paste-suc buffer 8 codes i 0 (omega arith) (omega arith) ∙ ap (paste buffer 8 codes) (sym (add-one i))

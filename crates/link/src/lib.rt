@@ -13,6 +13,7 @@ ghost use lib.Seq.{paste};
 ghost use Rattle.link.specs.Octets.{numberOf, pairs, halves, over, badCode, badCodes, aboveFifteen};
 ghost use Rattle.link.specs.Messages.{fixedLength, half, listed, isIam, labelIn, dpcIn, cicIn, headingIn};
 ghost use Rattle.link.specs.Writing.{said, tooLarge, badAddress, plainOctets, acmOctets, iamHead, labelOf, acmLimit, unwritten, iamWriting, shortWriting, writing};
+ghost use Rattle.link.specs.Entries.{fieldsOctets, readInto, writeFrom};
 ghost use Rattle.link.specs.Reading.{noCodes, refused, elsewhere, plainFields, bodyOf, fieldsOf, messageOf, reading};
 
 // A message by numbers, or the refusal of one with every other field 0: circuit, heading, ACM's octet, IAM's category, indicators and count,
@@ -487,4 +488,81 @@ pub fn write(
         return write_iam(label, category, indicators, address, out);
     }
     write_short(label, heading, acm, fixed, out)
+}
+
+// Fifteen codes, from octet 8 on.
+fn put_codes(address: &[u8], out: &mut [u8])
+    requires { ⌜ (length (now address) ≡ 15) × (23 ≤ length (now out)) ⌝ }
+    ensures { λ _. ⌜ now (out .exit) ≡ paste (now (out .entry)) 8 (now (address .entry)) 15 ⌝ }
+{
+    let mut i = 0;
+    while i < 15 {
+        out[8 + i] = address[i];
+        i += 1;
+    }
+}
+
+// The fields of a message at the start of a buffer.
+fn put_fields(f: Fields, out: &mut [u8])
+    requires { ⌜ 23 ≤ length (now out) ⌝ }
+    ensures { λ _. ⌜ now (out .exit) ≡ over (fieldsOctets f) (now (out .entry)) ⌝ }
+{
+    let circuit = f.circuit;
+    let address = f.address;
+    out[0] = (circuit.0 % 256) as u8;
+    out[1] = (circuit.0 / 256 % 256) as u8;
+    out[2] = f.heading;
+    out[3] = f.acm;
+    out[4] = f.category;
+    out[5] = (f.indicators % 256) as u8;
+    out[6] = (f.indicators / 256 % 256) as u8;
+    out[7] = f.count;
+    put_codes(&address, out);
+}
+
+// `read` for a host in C: answers the refusal, 0 where there is none, and then fills the first 23 octets of `out` with the fields.
+pub fn read_into(own: u32, far: u32, count: u32, octets: &[u8], out: &mut [u8]) -> u32
+    ensures answers { λ r. ⌜ r ≡ readInto own far count (now (octets .entry)) (now (out .entry)) .answer ⌝ }
+    ensures leaves { λ _. ⌜ now (out .exit) ≡ readInto own far count (now (octets .entry)) (now (out .entry)) .buffer ⌝ }
+{
+    let f = read_fields(PointCode(own), PointCode(far), count as usize, octets);
+    if f.refusal != 0 {
+        return f.refusal as u32;
+    }
+    if out.len() < 23 {
+        return 11;
+    }
+    put_fields(f, out);
+    0
+}
+
+// `write` for a host in C: answers the refusal and 256 times the length.
+pub fn write_from(
+    own: u32,
+    far: u32,
+    count: u32,
+    cic: u32,
+    heading: u32,
+    acm: u32,
+    category: u32,
+    indicators: u32,
+    address: &[u8],
+    out: &mut [u8],
+) -> u32
+    ensures answers { λ r. ⌜ r ≡ writeFrom own far count (said cic heading acm category indicators (now (address .entry))) (now (out .entry)) .answer ⌝ }
+    ensures leaves { λ _. ⌜ now (out .exit) ≡ writeFrom own far count (said cic heading acm category indicators (now (address .entry))) (now (out .entry)) .buffer ⌝ }
+{
+    let w = write(
+        PointCode(own),
+        PointCode(far),
+        count as usize,
+        Cic(cic),
+        heading,
+        acm,
+        category,
+        indicators,
+        address,
+        out,
+    );
+    w.refusal as u32 + 256 * (w.length as u32)
 }
