@@ -1,0 +1,48 @@
+-- The cases of the reader that fills a lent buffer.
+-- Assumes nothing.
+use mathlib.Core.Path.{_≡_, refl, sym, ap, _∙_}
+use mathlib.Core.Bool.{Bool, cond}
+use mathlib.Core.List.{List, _++_}
+use Prim.Native.Nat.{ℕ, zero, suc, _<_, _≤_}
+use borrow.Author.Tests.{lt-ltb, le-ltb}
+use lib.Dec.{ltb}
+use lib.ListN.{length}
+use lib.Seq.{paste}
+use Rattle.link.specs.declared.Fields.{Fields}
+use Rattle.link.specs.Octets.{over}
+use Rattle.link.specs.Reading.{fieldsOf}
+use Rattle.link.specs.Entries.{fieldsHead, fieldsOctets, Told, telling, readInto}
+use Rattle.link.proofs.Stores.{paste-behind}
+
+-- an answer and a buffer that are told
+pub tells : {o p : Told} {r : ℕ} {l : List ℕ} → o ≡ p → r ≡ p .answer → l ≡ p .buffer → (r ≡ o .answer) × (l ≡ o .buffer)
+tells e a b = (a ∙ ap (λ (o : Told). o .answer) (sym e), b ∙ ap (λ (o : Told). o .buffer) (sym e))
+
+-- the codes stand behind the other fields
+pub put-all : (f : Fields) (buffer now after : List ℕ) → length (f .address) ≡ 15 → now ≡ over (fieldsHead f) buffer → after ≡ paste now 8 (f .address) 15
+    → after ≡ over (fieldsOctets f) buffer
+put-all f buffer now after n p q =
+    q ∙ ap (λ (l : List ℕ). paste l 8 (f .address) 15) p ∙ ap (paste (over (fieldsHead f) buffer) 8 (f .address)) (sym n)
+    ∙ paste-behind (fieldsHead f) (f .address) buffer
+
+module _ (own far count : ℕ) (xs buffer : List ℕ) (f : Fields) (is : f ≡ fieldsOf own far count xs) where
+  told : readInto own far count xs buffer ≡ telling (f .refusal) f buffer
+  unfolding readInto
+  told = ap (λ (f : Fields). telling (f .refusal) f buffer) (sym is)
+
+  pub refuses : (f .refusal ≡ 0 → ⊥) → readInto own far count xs buffer ≡ record { answer = f .refusal; buffer = buffer }
+  refuses n = told ∙ go (f .refusal) n
+    where
+      go : (k : ℕ) → (k ≡ 0 → ⊥) → telling k f buffer ≡ record { answer = k; buffer = buffer }
+      go zero n = absurd (n refl)
+      go (suc k) n = refl
+
+  module _ (e : f .refusal ≡ 0) where
+    abbrev accepted : Bool → Told
+    accepted b = cond b (record { answer = 11; buffer = buffer }) (record { answer = 0; buffer = over (fieldsOctets f) buffer })
+
+    pub no-room : length buffer < 23 → readInto own far count xs buffer ≡ record { answer = 11; buffer = buffer }
+    no-room h = told ∙ ap (λ (k : ℕ). telling k f buffer) e ∙ ap accepted (lt-ltb _ _ h)
+
+    pub fills : 23 ≤ length buffer → readInto own far count xs buffer ≡ record { answer = 0; buffer = over (fieldsOctets f) buffer }
+    fills h = told ∙ ap (λ (k : ℕ). telling k f buffer) e ∙ ap accepted (le-ltb _ _ h)

@@ -1,0 +1,40 @@
+-- `link::read_into` meets its contract.
+-- Assumes nothing.
+use Rattle.link.proofs.Entries.{tells, refuses, no-room, fills}
+use mathlib.Core.Path.{_≡_, refl, sym, _∙_, ap}
+use borrow.Author.Needs.{needs}
+use Rattle.link.proofs.read_into.Statement.{statement}
+use Rattle.link.proofs.read_into.Tie as tie
+
+read-fields-requires : tie.Need-read-fields-requires
+read-fields-requires c κs = search needs
+
+cast-result : tie.Need-cast-result
+cast-result c = search needs
+
+returns : tie.Need-returns
+returns c = tells (refuses _ _ _ _ _ _ (c .before .before .before .read-fields .ensures) (c .before .if1 .taken)) refl refl
+
+returns-2 : tie.Need-returns-2
+returns-2 c = tells (no-room _ _ _ _ _ _ (c .before .before .before .read-fields .ensures) (c .before .if1 .left) (c .if2 .taken)) refl refl
+
+put-fields-requires : tie.Need-put-fields-requires
+put-fields-requires c κs = search needs
+
+same-length : tie.Need-same-length
+same-length c = search needs
+
+returns-3 : tie.Need-returns-3
+returns-3 c = tells (fills _ _ _ _ _ _ (c .before .before .before .before .before .before .before .read-fields .ensures) (c .before .before .before .before .before .if1 .left) (c .before .before .before .before .if2 .left)) refl (c .before .before .put-fields .ensures)
+
+pub read-into-spec : {M : Type 1} → statement M
+read-into-spec =
+    tie.close
+    (tie.spec
+    read-fields-requires
+    cast-result
+    returns
+    returns-2
+    put-fields-requires
+    same-length
+    returns-3)

@@ -1,0 +1,66 @@
+-- The formats of the messages: which headings there are, how long a message with one is, and where its fields lie.
+-- Assumes nothing.
+use mathlib.Core.Bool.{Bool, true, false, cond}
+use mathlib.Core.List.{List, [], _∷_}
+use Prim.Native.Nat.{ℕ, _+_, _*_, _/_, _%_, _^_}
+use lib.Dec.{eqb}
+use lib.ListN.{getD, take, drop}
+use Rattle.codes.specs.declared.Named.{Named}
+use Rattle.codes.specs.declared.Named.the-variants.{Known, Unknown}
+use Rattle.codes.specs.Headings.{signalOf}
+use Rattle.link.specs.Octets.{numberOf, halves}
+
+abbrev pub isKnown : Named → Bool
+isKnown (Known s) = true
+isKnown Unknown = false
+
+-- a heading that document 01 lists
+abbrev pub listed : ℕ → Bool
+listed heading = isKnown (signalOf heading 0)
+
+abbrev pub isIam : ℕ → Bool
+isIam heading = eqb heading 0x11
+
+abbrev pub isAcm : ℕ → Bool
+isAcm heading = eqb heading 0x14
+
+-- the octets of a message before its address signals: label and heading; ACM has one octet more, IAM three
+abbrev pub fixedLength : ℕ → ℕ
+fixedLength heading = cond (isIam heading) 9 (cond (isAcm heading) 7 6)
+
+-- the octets of so many address signals: half the count rounded up
+abbrev pub half : ℕ → ℕ
+half count = (count + 1) / 2
+
+-- the label, five octets: DPC + 2^14 · OPC + 2^28 · CIC
+abbrev pub labelIn : List ℕ → ℕ
+labelIn xs = numberOf (getD xs 0 0 ∷ getD xs 1 0 ∷ getD xs 2 0 ∷ getD xs 3 0 ∷ getD xs 4 0 ∷ [])
+
+abbrev pub dpcIn : List ℕ → ℕ
+dpcIn xs = labelIn xs % 2 ^ 14
+
+abbrev pub opcIn : List ℕ → ℕ
+opcIn xs = labelIn xs / 2 ^ 14 % 2 ^ 14
+
+abbrev pub cicIn : List ℕ → ℕ
+cicIn xs = labelIn xs / 2 ^ 28
+
+abbrev pub headingIn : List ℕ → ℕ
+headingIn xs = getD xs 5 0
+
+-- ACM's octet, and IAM's category: the top two bits are spare
+abbrev pub sixBitsIn : List ℕ → ℕ
+sixBitsIn xs = getD xs 6 0 % 64
+
+-- IAM's two octets: 12 indicator bits below, of which the bit worth 2048 is spare, and the count in the top four
+abbrev pub wordIn : List ℕ → ℕ
+wordIn xs = numberOf (getD xs 7 0 ∷ getD xs 8 0 ∷ [])
+
+abbrev pub indicatorsIn : List ℕ → ℕ
+indicatorsIn xs = wordIn xs % 2048
+
+abbrev pub countIn : List ℕ → ℕ
+countIn xs = wordIn xs / 4096
+
+abbrev pub addressIn : List ℕ → List ℕ
+addressIn xs = take (countIn xs) (halves (drop 9 xs))

@@ -1,0 +1,51 @@
+-- How numbers and address signals lie in octets (Q.723; document 01, "Messages on the link"). The reader and the writer both go by these.
+-- Assumes nothing.
+use mathlib.Core.Bool.{Bool, true, false, cond, _||_}
+use mathlib.Core.List.{List, [], _∷_, _++_}
+use Prim.Native.Nat.{ℕ, zero, suc, _+_, _*_, _/_, _%_}
+use lib.Dec.{eqb, ltb}
+use lib.ListN.{length, getD, drop}
+
+-- a number in so many octets, lowest first
+abbrev pub lowFirst : ℕ → ℕ → List ℕ
+lowFirst zero n = []
+lowFirst (suc k) n = n % 256 ∷ lowFirst k (n / 256)
+
+-- the number that octets hold, lowest first
+abbrev pub numberOf : List ℕ → ℕ
+numberOf [] = 0
+numberOf (o ∷ os) = o + 256 * numberOf os
+
+-- address signals two to an octet, the earlier one low, a zero filler after an odd count
+abbrev pub pairs : List ℕ → List ℕ
+pairs [] = []
+pairs (a ∷ []) = a ∷ []
+pairs (a ∷ b ∷ rest) = (a + 16 * b) ∷ pairs rest
+
+-- the address signals and the filler that octets hold
+abbrev pub halves : List ℕ → List ℕ
+halves [] = []
+halves (o ∷ os) = o % 16 ∷ o / 16 ∷ halves os
+
+-- octets at the start of a buffer, whose other octets keep their contents
+abbrev pub over : List ℕ → List ℕ → List ℕ
+over xs buffer = xs ++ drop (length xs) buffer
+
+-- 10, 13 and 14 are spare codes
+abbrev pub spare : ℕ → Bool
+spare code = eqb code 10 || eqb code 13 || eqb code 14
+
+-- ST (15) where more signals follow, or a spare code
+abbrev pub badCode : ℕ → Bool → Bool
+badCode code more = cond (eqb code 15) more (spare code)
+
+-- some signal that a test fits, which is told whether more signals follow
+abbrev pub someSignal : (ℕ → Bool → Bool) → List ℕ → Bool
+someSignal test [] = false
+someSignal test (code ∷ rest) = test code (ltb 0 (length rest)) || someSignal test rest
+
+abbrev pub badCodes : List ℕ → Bool
+badCodes = someSignal badCode
+
+abbrev pub aboveFifteen : List ℕ → Bool
+aboveFifteen = someSignal (λ code more. ltb 15 code)
