@@ -6,6 +6,8 @@ ghost use mathlib.Core.Path.{_≡_};
 ghost use Prim.Native.Nat.{_<_};
 ghost use Rattle.codes.specs.Numbers.{eventOf};
 ghost use Rattle.group.specs.Table.{stepIn};
+ghost use Rattle.link.specs.Entries.{readInto, writeFrom};
+ghost use Rattle.link.specs.Writing.{said};
 ghost use Rattle.tup.specs.Packed.{octets, packed, Unpacks, Unpacked};
 
 fn wide(x: u8) -> u64
@@ -49,4 +51,44 @@ pub extern "C" fn tup_step(
 {
     let event = codes::event_of(kind, code, detail);
     pack(group::step(PointCode(own), PointCode(far), table, Cic(cic), event))
+}
+
+// Reads a message from its label on, in a group of `count` circuits. The answer is the refusal; the fields go to `out`.
+#[no_mangle]
+pub extern "C" fn tup_read(own: u32, far: u32, count: u32, octets: &[u8], out: &mut [u8]) -> u32
+    ensures answers { λ r. ⌜ r ≡ readInto own far count (now (octets .entry)) (now (out .entry)) .answer ⌝ }
+    ensures leaves { λ _. ⌜ now (out .exit) ≡ readInto own far count (now (octets .entry)) (now (out .entry)) .buffer ⌝ }
+{
+    link::read_into(own, far, count, octets, out)
+}
+
+// Writes a message. The answer is the refusal and 256 times the length.
+#[no_mangle]
+pub extern "C" fn tup_write(
+    own: u32,
+    far: u32,
+    count: u32,
+    cic: u32,
+    heading: u32,
+    acm: u32,
+    category: u32,
+    indicators: u32,
+    address: &[u8],
+    out: &mut [u8],
+) -> u32
+    ensures answers { λ r. ⌜ r ≡ writeFrom own far count (said cic heading acm category indicators (now (address .entry))) (now (out .entry)) .answer ⌝ }
+    ensures leaves { λ _. ⌜ now (out .exit) ≡ writeFrom own far count (said cic heading acm category indicators (now (address .entry))) (now (out .entry)) .buffer ⌝ }
+{
+    link::write_from(
+        own,
+        far,
+        count,
+        cic,
+        heading,
+        acm,
+        category,
+        indicators,
+        address,
+        out,
+    )
 }
