@@ -1,0 +1,5 @@
+pub mod Words
+pub mod Events
+pub mod Moves
+pub mod Rooms
+pub mod Sound
