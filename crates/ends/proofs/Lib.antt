@@ -3,3 +3,4 @@ pub mod Events
 pub mod Moves
 pub mod Rooms
 pub mod Sound
+pub mod Explored

@@ -6,7 +6,7 @@ use mathlib.Core.List.{List, [], _∷_, _++_}
 use Prim.Native.Nat.{ℕ, zero, suc}
 use lib.Dec.{T, eqb, leb}
 use Rattle.ends.specs.Ends.{sameStage, When.anyTime, When.inSilence, When.losingAll}
-use Rattle.ends.proofs.Words.{words, iam, clf, rlg, blo, mute, quiet, next, Run, Run.ran, run, restOf, Half, Half.half, sameHalf, joinAll, allIn, has, family, absorbs}
+use Rattle.ends.proofs.Words.{words, iam, clf, rlg, blo, mute, quiet, next, Run, Run.ran, run, restOf, Half, Half.half, sameHalf, joinAll, endOf, reach, outgoing, allIn, has, family, absorbs}
 use Rattle.ends.proofs.Moves.{Move, Move.to, Table, causeOf}
 
 abbrev pub Room : Type 0
@@ -35,9 +35,10 @@ module _ (c : Bool) (s : ℕ) (r : Run) (b : Bool) (y : Half) where
   goes sure (to n o) = cond (eqb n s && (sure || not (eqb n 1))) (stays o)
       (cond (has s (family s) && absorbs c n (family s)) (comes n (run c n (restOf r)) o) (impossible ∷ []))
 
-  -- it takes the quiet word x
+  -- it takes the quiet word x; where its call goes on, the run ends in a state that can still be reached
   abbrev pub glides : ℕ → Move → List Need
-  glides x (to n o) = cond (eqb n (next s x)) (cond (eqb n s) (stays o) (comes n r o)) (impossible ∷ [])
+  glides x (to n o) = cond (eqb n (next s x)) (cond (eqb n s) (stays o)
+      (cond (has n outgoing) (cond (has (endOf r) (reach n)) (comes n r o) []) (impossible ∷ []))) (impossible ∷ [])
 
   -- it takes the word x from the head of its run's rest
   abbrev pub takesRest : Run → ℕ → Move → List Need
@@ -105,9 +106,10 @@ abbrev pub meets : List Room → Bool → Need → Bool
 meets l c (room me you) = listed l (inRole c me you)
 meets l c impossible = false
 
+-- most happenings leave the ends in the room where they are: that one is looked at first
 unfoldable pub closedAt : Table → List Room → Room → Bool
 unfolding follows
-closedAt m l r = sound r && (allIn (meets l true) (follows m true (r .0) (r .1)) && allIn (meets l false) (follows m false (r .1) (r .0)))
+closedAt m l r = sound r && (allIn (meets (r ∷ l) true) (follows m true (r .0) (r .1)) && allIn (meets (r ∷ l) false) (follows m false (r .1) (r .0)))
 
 abbrev pub closed : Table → List Room → Bool
 closed m l = allIn (closedAt m l) l

@@ -8,7 +8,7 @@ use Prim.Native.Nat.{ℕ, zero, suc}
 use lib.Dec.{T, eqb, leb, eqb→eq}
 use Rattle.circuit.specs.declared.Signal.{Signal}
 use Rattle.circuit.specs.declared.Signal.the-variants.{Iam, Acm, Anc, Ann, Cbk, Clf, Ran, Rlg, Blo, Bla, Ubl, Uba, Rsc, Fail}
-use Rattle.circuit.specs.Every.{left, right}
+use Rattle.circuit.specs.Every.{left, right, atBool}
 
 -- The words. ANC and ANN are one, and so are the failures. The four that change no call come last, and state s of an outgoing call goes on by
 -- word s: 1 by ACM, 2 by an answer, 3 by CBK, 4 by RAN.
@@ -140,6 +140,9 @@ run c s (x ∷ w) = cond (quiet c s x) (run c (next s x) w) (ran s (x ∷ w))
 abbrev pub restOf : Run → List ℕ
 restOf (ran p u) = u
 
+abbrev pub endOf : Run → ℕ
+endOf (ran p u) = p
+
 -- an end: its state, the run of its queue, and, if it is seized, whether a BLO is on its way to it
 pub data Half : Type 0 where
   half : ℕ → Run → Bool → Half
@@ -246,9 +249,12 @@ joined c s w (x ∷ o) = ap (λ (h : Half). joinAll c h o) (joined-one c s w x) 
 
 -- a change of state
 
+abbrev pub outgoing : List ℕ
+outgoing = 1 ∷ 2 ∷ 3 ∷ 4 ∷ []
+
 -- the states that quiet words lead through
 abbrev pub family : ℕ → List ℕ
-family s = cond (leb 1 s && leb s 4) (1 ∷ 2 ∷ 3 ∷ 4 ∷ []) (s ∷ [])
+family s = cond (has s outgoing) outgoing (s ∷ [])
 
 -- t takes quietly, and stays, whatever these states take quietly
 abbrev pub absorbs : (c : Bool) → ℕ → List ℕ → Bool
@@ -270,3 +276,28 @@ run-absorbs c t l a s m (x ∷ u) = by (quiet c s x) (λ q. at-has (λ y. has (n
         let qt : quiet c t x ≡ true = is-true (quiet c t x) (left (quiet c t x) _ two) in
         let st : next t x ≡ t = eqb→eq (next t x) t (right (quiet c t x) _ two) in
         ap (λ (q : Bool). cond q (run c (next t x) u) (ran t (x ∷ u))) qt ∙ (ap (λ (n : ℕ). run c n u) st ∙ ih (left (has (next s x) l) _ (e tt)))
+
+-- where a run from an outgoing state can end: a call goes on, and not back
+abbrev pub reach : ℕ → List ℕ
+reach s = cond (eqb s 1) outgoing (cond (eqb s 2) (2 ∷ 3 ∷ 4 ∷ []) (3 ∷ 4 ∷ []))
+
+abbrev onward : Bool → ℕ → Bool
+onward c s = has s (reach s) && allIn (λ x. has (next s x) outgoing && allIn (λ p. has p (reach s)) (reach (next s x))) (quietIn c s)
+
+pub run-ends : (c : Bool) (s : ℕ) → T (has s outgoing) → (u : List ℕ) → T (has (endOf (run c s u)) (reach s))
+run-ends c s m u = go u s m
+  where
+    test : T (allIn (onward c) outgoing)
+    test = atBool (λ c. allIn (onward c) outgoing) tt c
+
+    go : (u : List ℕ) (s : ℕ) → T (has s outgoing) → T (has (endOf (run c s u)) (reach s))
+    go [] s m = left (has s (reach s)) _ (at-has (onward c) outgoing s m test)
+    go (x ∷ u) s m = by (quiet c s x) (λ q. at-has (λ x. has (next s x) outgoing && allIn (λ p. has p (reach s)) (reach (next s x))) (quietIn c s) x q (right (has s (reach s)) _ here)) (λ n. go u (next s x) n)
+      where
+        here : T (onward c s)
+        here = at-has (onward c) outgoing s m test
+
+        by : (q : Bool) → (T q → T (has (next s x) outgoing && allIn (λ p. has p (reach s)) (reach (next s x)))) → (T (has (next s x) outgoing) → T (has (endOf (run c (next s x) u)) (reach (next s x))))
+            → T (has (endOf (cond q (run c (next s x) u) (ran s (x ∷ u)))) (reach s))
+        by false e ih = left (has s (reach s)) _ here
+        by true e ih = at-has (λ p. has p (reach s)) (reach (next s x)) (endOf (run c (next s x) u)) (ih (left (has (next s x) outgoing) _ (e tt))) (right (has (next s x) outgoing) _ (e tt))
