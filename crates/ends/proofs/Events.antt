@@ -27,7 +27,7 @@ use Rattle.codes.specs.declared.Found.{Found}
 use Rattle.codes.specs.declared.Found.the-variants.{Is, Missing}
 use Rattle.step.specs.Step.{step, stepFound}
 use Rattle.ends.specs.Ends.{does}
-use Rattle.ends.proofs.Words.{word, allIn}
+use Rattle.ends.proofs.Words.{word, words, allIn, has, at-has}
 
 -- valid records
 
@@ -138,3 +138,37 @@ module _ (f : Found → Bool) (t : T (allIn f hostEvents)) where
   atHostEvent k (Is (Ordered o)) = atCommand o
   atHostEvent k (Is (RunsOut o)) = atTimer o
   atHostEvent k Missing = place 0
+
+-- both: p at every word that arrives, q at what the host gives, in either role with every valid record
+pub isWord : (x : Signal) → T (has (word x) words)
+isWord Iam = tt
+isWord (Acm octet) = tt
+isWord Anc = tt
+isWord Ann = tt
+isWord Cbk = tt
+isWord Ran = tt
+isWord (Fail f) = tt
+isWord Clf = tt
+isWord Rlg = tt
+isWord Rsc = tt
+isWord Blo = tt
+isWord Ubl = tt
+isWord Bla = tt
+isWord Uba = tt
+
+module _ (p : Bool → Record → ℕ → Bool) (q : Bool → Record → Found → Bool) where
+  abbrev pub everyEvent : Bool → Record → Bool
+  everyEvent c r = allIn (p c r) words && allIn (q c r) hostEvents
+
+  abbrev pub everywhere : Bool
+  everywhere = eachBool (λ c. eachRecord (everyEvent c))
+
+  module _ (t : T everywhere) (c : Bool) (r : Record) (v : T (valid r)) where
+    here : T (everyEvent c r)
+    here = atRecord (everyEvent c) (atBool (λ c. eachRecord (everyEvent c)) t c) r v
+
+    pub atWord : (x : Signal) → T (p c r (word x))
+    atWord x = at-has (p c r) words (word x) (isWord x) (left (allIn (p c r) words) _ here)
+
+    pub atHost : ((x : Signal) → T (q c r (Is (Arrives x)))) → (e : Found) → T (q c r e)
+    atHost k e = atHostEvent (q c r) (right (allIn (p c r) words) _ here) k e

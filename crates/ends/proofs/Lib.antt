@@ -4,3 +4,4 @@ pub mod Moves
 pub mod Rooms
 pub mod Sound
 pub mod Explored
+pub mod Marks

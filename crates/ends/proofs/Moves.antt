@@ -9,18 +9,17 @@ use lib.Dec.{T, eqb, eqb→eq}
 use lib.ListN.{getD}
 use Rattle.circuit.specs.declared.Record.{Record}
 use Rattle.circuit.specs.declared.Signal.{Signal}
-use Rattle.circuit.specs.declared.Signal.the-variants.{Iam, Acm, Anc, Ann, Cbk, Clf, Ran, Rlg, Blo, Bla, Ubl, Uba, Rsc, Fail}
 use Rattle.circuit.specs.declared.Event.the-variants.{Arrives, Ordered, RunsOut}
 use Rattle.circuit.specs.declared.Outcome.{Outcome}
 use Rattle.circuit.specs.Records.{rec, valid}
 use Rattle.circuit.specs.Rows.{first}
-use Rattle.circuit.specs.Every.{left, right, eachBool, atBool, eachBelow}
+use Rattle.circuit.specs.Every.{left, right}
 use Rattle.codes.specs.declared.Found.{Found}
 use Rattle.codes.specs.declared.Found.the-variants.{Is, Missing}
 use Rattle.step.specs.Step.{step, stepFound}
 use Rattle.ends.specs.Ends.{does, inOrder, When, When.anyTime, When.inSilence, When.losingAll, When.never, whenGiven}
-use Rattle.ends.proofs.Words.{word, words, heard, allIn, has, at-has, sameList, same-list}
-use Rattle.ends.proofs.Events.{eachRecord, atRecord, said, alike, hostEvents, atHostEvent}
+use Rattle.ends.proofs.Words.{word, words, heard, sameList, same-list}
+use Rattle.ends.proofs.Events.{said, alike, hostEvents, everywhere, atWord, atHost}
 
 pub data Move : Type 0 where
   to : ℕ → List ℕ → Move
@@ -53,44 +52,27 @@ causeOf never = 16
 
 -- a table has every move
 
-abbrev pub hostListed : Table → Bool → Record → Found → When → Bool
-hostListed m c r e anyTime = among (moveOf (does c r e)) (m c (r .state) (causeOf anyTime))
-hostListed m c r e inSilence = among (moveOf (does c r e)) (m c (r .state) (causeOf inSilence))
-hostListed m c r e losingAll = among (moveOf (does c r e)) (m c (r .state) (causeOf losingAll))
-hostListed m c r e never = true
+abbrev pub byCause : When → Move → (ℕ → List Move) → Bool
+byCause anyTime a row = among a (row (causeOf anyTime))
+byCause inSilence a row = among a (row (causeOf inSilence))
+byCause losingAll a row = among a (row (causeOf losingAll))
+byCause never a row = true
 
-abbrev pub wordListed : Table → Bool → Record → ℕ → Bool
+abbrev pub hostListed : Table → Bool → Record → Found → Bool
+hostListed m c r e = byCause (whenGiven e) (moveOf (does c r e)) (m c (r .state))
+
+abbrev wordListed : Table → Bool → Record → ℕ → Bool
 wordListed m c r k = among (moveOf (does c r (Is (Arrives (said k))))) (m c (r .state) k)
 
 abbrev pub complete : Table → Bool
-complete m = eachBool (λ c. eachRecord (λ r. allIn (wordListed m c r) words && allIn (λ e. hostListed m c r e (whenGiven e)) hostEvents))
-
-isWord : (x : Signal) → T (has (word x) words)
-isWord Iam = tt
-isWord (Acm octet) = tt
-isWord Anc = tt
-isWord Ann = tt
-isWord Cbk = tt
-isWord Ran = tt
-isWord (Fail f) = tt
-isWord Clf = tt
-isWord Rlg = tt
-isWord Rsc = tt
-isWord Blo = tt
-isWord Ubl = tt
-isWord Bla = tt
-isWord Uba = tt
+complete m = everywhere (wordListed m) (hostListed m)
 
 module _ (m : Table) (t : T (complete m)) (c : Bool) (r : Record) (v : T (valid r)) where
-  here : T (allIn (wordListed m c r) words && allIn (λ e. hostListed m c r e (whenGiven e)) hostEvents)
-  here = atRecord (λ r. allIn (wordListed m c r) words && allIn (λ e. hostListed m c r e (whenGiven e)) hostEvents)
-      (atBool (λ c. eachRecord (λ r. allIn (wordListed m c r) words && allIn (λ e. hostListed m c r e (whenGiven e)) hostEvents)) t c) r v
-
   pub word-listed : (x : Signal) → T (among (moveOf (does c r (Is (Arrives x)))) (m c (r .state) (word x)))
-  word-listed x = rw (alike c r x) (at-has (wordListed m c r) words (word x) (isWord x) (left (allIn (wordListed m c r) words) _ here))
+  word-listed x = rw (alike c r x) (atWord (wordListed m) (hostListed m) t c r v x)
 
-  pub host-listed : (e : Found) → T (hostListed m c r e (whenGiven e))
-  host-listed e = atHostEvent (λ e. hostListed m c r e (whenGiven e)) (right (allIn (wordListed m c r) words) _ here) (λ x. tt) e
+  pub host-listed : (e : Found) → T (hostListed m c r e)
+  host-listed e = atHost (wordListed m) (hostListed m) t c r v (λ x. tt) e
 
 -- the table, computed
 

@@ -1,0 +1,129 @@
+-- The blocks: what an end holds of the other's block, brought up to date by what is on its way to it, is what the other has. Or an RSC is on its
+-- way to the other, which will then say its block again. And records stay valid.
+-- What an event does to the marks is one test over all records and events.
+-- Assumes nothing.
+use mathlib.Core.Bool.{Bool, true, false, cond, not, _&&_, _||_}
+use mathlib.Core.List.{List, [], _∷_, _++_}
+use mathlib.Core.Path.{_≡_, refl, subst}
+use Prim.Native.Nat.{ℕ}
+use lib.Dec.{T, eqb}
+use Rattle.circuit.specs.declared.Record.{Record}
+use Rattle.circuit.specs.declared.Signal.{Signal}
+use Rattle.circuit.specs.declared.Event.the-variants.{Arrives, Ordered, RunsOut}
+use Rattle.circuit.specs.declared.Outcome.{Outcome}
+use Rattle.circuit.specs.Records.{valid}
+use Rattle.circuit.specs.Rows.{first}
+use Rattle.circuit.specs.Every.{left, right, implies, then, eachBool, atBool}
+use Rattle.codes.specs.declared.Found.{Found}
+use Rattle.codes.specs.declared.Found.the-variants.{Is, Missing}
+use Rattle.step.specs.Step.{step, stepFound}
+use Rattle.ends.specs.Ends.{End, does, inOrder, Pair, acted, arrival, When, When.anyTime, When.inSilence, When.losingAll, When.never, whenGiven, silence, emptied, given, Happening, Happening.arrives, Happening.host, turn}
+use Rattle.ends.proofs.Words.{blo, ubl, rsc, word, heard, heard-more, sameBool}
+use Rattle.ends.proofs.Events.{said, alike, everywhere, atWord, atHost}
+
+-- the far mark after a word, and after a queue: BLO sets it, UBL and RSC clear it
+abbrev marked : Bool → ℕ → Bool
+marked m x = cond (eqb x blo) true (cond (eqb x ubl || eqb x rsc) false m)
+
+abbrev pub marks : Bool → List ℕ → Bool
+marks m [] = m
+marks m (x ∷ w) = marks (marked m x) w
+
+abbrev pub resetIn : List ℕ → Bool
+resetIn [] = false
+resetIn (x ∷ w) = eqb x rsc || resetIn w
+
+-- an end's own block, the other's mark of it when all has arrived, an RSC on its way to the end
+abbrev pub inStep : Bool → Bool → Bool → Bool
+inStep true m z = m || z
+inStep false m z = not m
+
+pub record Marks (x y : End) : Type 0 where
+  pub there : T (inStep (x .holds .own) (marks (y .holds .far) (heard (y .coming))) (resetIn (heard (x .coming))))
+  pub back : T (inStep (y .holds .own) (marks (x .holds .far) (heard (x .coming))) (resetIn (heard (y .coming))))
+  pub mine : T (valid (x .holds))
+  pub yours : T (valid (y .holds))
+
+-- queues
+
+marks-more : (m : Bool) (w o : List ℕ) → marks m (w ++ o) ≡ marks (marks m w) o
+marks-more m [] o = refl
+marks-more m (x ∷ w) o = marks-more (marked m x) w o
+
+marks-fewer : (w : List ℕ) → T (not (marks true w)) → T (not (marks false w))
+marks-fewer [] t = absurd t
+marks-fewer (x ∷ w) t = by (eqb x blo) (eqb x ubl || eqb x rsc) t (marks-fewer w)
+  where
+    by : (a b : Bool) → T (not (marks (cond a true (cond b false true)) w)) → (T (not (marks true w)) → T (not (marks false w))) → T (not (marks (cond a true (cond b false false)) w))
+    by true b t ih = t
+    by false true t ih = t
+    by false false t ih = ih t
+
+reset-more : (w o : List ℕ) → T (resetIn w || resetIn o) → T (resetIn (w ++ o))
+reset-more [] o t = t
+reset-more (x ∷ w) o t = by (eqb x rsc) t (reset-more w o)
+  where
+    by : (a : Bool) → T ((a || resetIn w) || resetIn o) → (T (resetIn w || resetIn o) → T (resetIn (w ++ o))) → T (a || resetIn (w ++ o))
+    by true t ih = tt
+    by false t ih = ih t
+
+-- An event keeps the marks in step: the far mark becomes `far`, or is cleared while an RSC goes out.
+abbrev farKept : (far new sent : Bool) → Bool
+farKept far new sent = sameBool new far || not new && sent
+
+-- m: the other's mark of this end when all has arrived; z, u: an RSC is on its way to this end, before and after
+abbrev keeps : Record → (m z u far : Bool) → Outcome → Bool
+keeps r m z u far o = implies (inStep (r .own) m z) (inStep (o .after .own) (marks m (heard (inOrder (o .sends)))) u)
+    && (valid (o .after) && farKept far (o .after .far) (resetIn (heard (inOrder (o .sends)))))
+
+-- with everything lost, there is nothing to keep: both marks are clear and an RSC goes out
+abbrev clears : Bool → Outcome → Bool
+clears m o = inStep (o .after .own) (marks m (heard (inOrder (o .sends)))) false && (valid (o .after) && (not (o .after .far) && resetIn (heard (inOrder (o .sends)))))
+
+abbrev wordKeeps : Bool → Record → ℕ → Bool
+wordKeeps c r k = eachBool (λ m. eachBool (λ z. keeps r m (eqb k rsc || z) z (marked (r .far) k) (does c r (Is (Arrives (said k))))))
+
+abbrev hostKeepsWhen : When → Record → Outcome → Bool
+hostKeepsWhen anyTime r o = eachBool (λ m. eachBool (λ z. keeps r m z z (r .far) o))
+hostKeepsWhen inSilence r o = eachBool (λ m. eachBool (λ z. keeps r m z z (r .far) o))
+hostKeepsWhen losingAll r o = eachBool (λ m. clears m o)
+hostKeepsWhen never r o = true
+
+abbrev hostKeeps : Bool → Record → Found → Bool
+hostKeeps c r e = hostKeepsWhen (whenGiven e) r (does c r e)
+
+kept-in-step : T (everywhere wordKeeps hostKeeps)
+unfolding does stepFound step first
+kept-in-step = tt
+
+-- from the test to the ends
+
+abbrev MarksPair : Pair → Type 0
+MarksPair p = Marks (p .0) (p .1)
+
+back-kept : (own far new : Bool) (w : List ℕ) (z sent u : Bool) → (T (z || sent) → T u) → T (farKept far new sent) → T (inStep own (marks far w) z) → T (inStep own (marks new w) u)
+back-kept own true true w z sent u k f h = more own (marks true w) z sent k h
+  where
+    more : (own m z sent : Bool) → (T (z || sent) → T u) → T (inStep own m z) → T (inStep own m u)
+    more true true z sent k h = tt
+    more true false true sent k h = k tt
+    more true false false sent k h = absurd h
+    more false m z sent k h = h
+back-kept own false false w z sent u k f h = more own (marks false w) z sent k h
+  where
+    more : (own m z sent : Bool) → (T (z || sent) → T u) → T (inStep own m z) → T (inStep own m u)
+    more true true z sent k h = tt
+    more true false true sent k h = k tt
+    more true false false sent k h = absurd h
+    more false m z sent k h = h
+back-kept own false true w z sent u k f h = absurd f
+back-kept own true false w z sent u k f h = by own z sent k f h
+  where
+    or-u : (m : Bool) → T u → T (m || u)
+    or-u true t = tt
+    or-u false t = t
+
+    by : (own z sent : Bool) → (T (z || sent) → T u) → T sent → T (inStep own (marks true w) z) → T (inStep own (marks false w) u)
+    by true true sent k f h = or-u (marks false w) (k tt)
+    by true false sent k f h = or-u (marks false w) (k f)
+    by false z sent k f h = marks-fewer w h
