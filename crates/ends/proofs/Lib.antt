@@ -5,3 +5,4 @@ pub mod Rooms
 pub mod Sound
 pub mod Explored
 pub mod Marks
+pub mod Claim

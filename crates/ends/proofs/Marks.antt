@@ -101,29 +101,109 @@ kept-in-step = tt
 abbrev MarksPair : Pair → Type 0
 MarksPair p = Marks (p .0) (p .1)
 
+in-step-more : (own m z sent u : Bool) → (T (z || sent) → T u) → T (inStep own m z) → T (inStep own m u)
+in-step-more true true z sent u k h = tt
+in-step-more true false true sent u k h = k tt
+in-step-more true false false sent u k h = absurd h
+in-step-more false m z sent u k h = h
+
+-- the other's block, when this end's far mark is kept or an RSC goes out
 back-kept : (own far new : Bool) (w : List ℕ) (z sent u : Bool) → (T (z || sent) → T u) → T (farKept far new sent) → T (inStep own (marks far w) z) → T (inStep own (marks new w) u)
-back-kept own true true w z sent u k f h = more own (marks true w) z sent k h
-  where
-    more : (own m z sent : Bool) → (T (z || sent) → T u) → T (inStep own m z) → T (inStep own m u)
-    more true true z sent k h = tt
-    more true false true sent k h = k tt
-    more true false false sent k h = absurd h
-    more false m z sent k h = h
-back-kept own false false w z sent u k f h = more own (marks false w) z sent k h
-  where
-    more : (own m z sent : Bool) → (T (z || sent) → T u) → T (inStep own m z) → T (inStep own m u)
-    more true true z sent k h = tt
-    more true false true sent k h = k tt
-    more true false false sent k h = absurd h
-    more false m z sent k h = h
+back-kept own true true w z sent u k f h = in-step-more own (marks true w) z sent u k h
+back-kept own false false w z sent u k f h = in-step-more own (marks false w) z sent u k h
 back-kept own false true w z sent u k f h = absurd f
-back-kept own true false w z sent u k f h = by own z sent k f h
+back-kept own true false w z sent u k f h = by own z k h
   where
     or-u : (m : Bool) → T u → T (m || u)
     or-u true t = tt
     or-u false t = t
 
-    by : (own z sent : Bool) → (T (z || sent) → T u) → T sent → T (inStep own (marks true w) z) → T (inStep own (marks false w) u)
-    by true true sent k f h = or-u (marks false w) (k tt)
-    by true false sent k f h = or-u (marks false w) (k f)
-    by false z sent k f h = marks-fewer w h
+    by : (own z : Bool) → (T (z || sent) → T u) → T (inStep own (marks true w) z) → T (inStep own (marks false w) u)
+    by true true k h = or-u (marks false w) (k tt)
+    by true false k h = or-u (marks false w) (k f)
+    by false z k h = marks-fewer w h
+
+-- an end acts, and what it does has passed the test
+acts : (r : Record) (z : Bool) (rest : List Signal) (far : Bool) (other : End) (o : Outcome)
+    → T (inStep (r .own) (marks (other .holds .far) (heard (other .coming))) z)
+    → T (inStep (other .holds .own) (marks far (heard rest)) (resetIn (heard (other .coming))))
+    → T (valid (other .holds)) → T (keeps r (marks (other .holds .far) (heard (other .coming))) z (resetIn (heard rest)) far o) → MarksPair (acted o rest other)
+acts r z rest far other o there back yours test = record {
+  there = rw (heard-more (other .coming) (inOrder (o .sends)), marks-more (other .holds .far) (heard (other .coming)) (heard (inOrder (o .sends)))) (then (inStep (r .own) M z) _ (left (implies (inStep (r .own) M z) (inStep (o .after .own) (marks M sent) (resetIn (heard rest)))) _ test) there);
+  back = rw (heard-more (other .coming) (inOrder (o .sends))) (back-kept (other .holds .own) far (o .after .far) (heard rest) (resetIn (heard (other .coming))) (resetIn sent) _ (reset-more (heard (other .coming)) sent) (right (valid (o .after)) _ two) back);
+  mine = left (valid (o .after)) _ two;
+  yours = yours;
+}
+  where
+    M : Bool
+    M = marks (other .holds .far) (heard (other .coming))
+
+    sent : List ℕ
+    sent = heard (inOrder (o .sends))
+
+    two : T (valid (o .after) && farKept far (o .after .far) (resetIn sent))
+    two = right (implies (inStep (r .own) M z) (inStep (o .after .own) (marks M sent) (resetIn (heard rest)))) _ test
+
+module _ (c : Bool) (other : End) where
+  abbrev N : Bool
+  N = marks (other .holds .far) (heard (other .coming))
+
+  arrived : (r : Record) (q : List Signal) → Marks (record { holds = r; coming = q }) other → MarksPair (arrival c r q other)
+  arrived r [] i = i
+  arrived r (x ∷ rest) i = acts r (eqb (word x) rsc || Z) rest (marked (r .far) (word x)) other (does c r (Is (Arrives x))) (i .there) (i .back) (i .yours)
+      (rw (alike c r x) (atBool (λ z. keeps r N (eqb (word x) rsc || z) z (marked (r .far) (word x)) O) (atBool (λ m. eachBool (λ z. keeps r m (eqb (word x) rsc || z) z (marked (r .far) (word x)) O))
+      (atWord wordKeeps hostKeeps kept-in-step c r (i .mine) x) N) Z))
+    where
+      Z : Bool
+      Z = resetIn (heard rest)
+
+      O : Outcome
+      O = does c r (Is (Arrives (said (word x))))
+
+  -- everything on its way is lost
+  lost : (o : Outcome) → T (valid (other .holds)) → T (eachBool (λ m. clears m o)) → MarksPair (acted o [] (emptied other))
+  lost o yours test = record { there = left (inStep (o .after .own) (marks (other .holds .far) sent) false) _ one; back = by (other .holds .own) (o .after .far) (resetIn sent) (right (valid (o .after)) _ two); mine = left (valid (o .after)) _ two; yours = yours }
+    where
+      sent : List ℕ
+      sent = heard (inOrder (o .sends))
+
+      one : T (clears (other .holds .far) o)
+      one = atBool (λ m. clears m o) test (other .holds .far)
+
+      two : T (valid (o .after) && (not (o .after .far) && resetIn sent))
+      two = right (inStep (o .after .own) (marks (other .holds .far) sent) false) _ one
+
+      by : (own far z : Bool) → T (not far && z) → T (inStep own far z)
+      by true false true t = tt
+      by true true z t = absurd t
+      by true false false t = absurd t
+      by false false z t = tt
+      by false true z t = absurd t
+
+  plainly : (me : End) → Marks me other → (o : Outcome) → T (hostKeepsWhen anyTime (me .holds) o) → MarksPair (acted o (me .coming) other)
+  plainly me i o test = acts (me .holds) (resetIn (heard (me .coming))) (me .coming) (me .holds .far) other o (i .there) (i .back) (i .yours)
+      (atBool (λ z. keeps (me .holds) N z z (me .holds .far) o) (atBool (λ m. eachBool (λ z. keeps (me .holds) m z z (me .holds .far) o)) test N) (resetIn (heard (me .coming))))
+
+  hosted : (me : End) → Marks me other → (e : Found) (w : When) → T (hostKeepsWhen w (me .holds) (does c (me .holds) e)) → MarksPair (given w c e me other)
+  hosted me i e anyTime test = plainly me i (does c (me .holds) e) test
+  hosted me i e inSilence test = by (silence me other)
+    where
+      by : (s : Bool) → MarksPair (cond s (acted (does c (me .holds) e) (me .coming) other) (me, other))
+      by true = plainly me i (does c (me .holds) e) test
+      by false = i
+  hosted me i e losingAll test = lost (does c (me .holds) e) (i .yours) test
+  hosted me i e never test = i
+
+  pub turned : (me : End) → Marks me other → (h : Happening) → MarksPair (turn c h me other)
+  turned me i arrives = arrived (me .holds) (me .coming) i
+  turned me i (host e) = hosted me i e (whenGiven e) (atHost wordKeeps hostKeeps kept-in-step c (me .holds) (i .mine) (λ x. tt) e)
+
+pub swapped : {x y : End} → Marks x y → Marks y x
+swapped i = record { there = i .back; back = i .there; mine = i .yours; yours = i .mine }
+
+-- with nothing on its way, the far mark is the other's block
+pub known : (own far : Bool) → T (inStep own far false) → far ≡ own
+known true true h = refl
+known true false h = absurd h
+known false true h = absurd h
+known false false h = refl

@@ -80,7 +80,7 @@ agrees (half s r b) (half t q d) = not (nothingComes (half s r b) && nothingCome
 
 -- the words that never arrive: RLG but in 5 and 12; an answer, CBK, RAN in 1; CLF in 2..4
 abbrev pub unheardWord : ℕ → ℕ → Bool
-unheardWord s x = eqb x rlg && not (eqb s 5 || eqb s 12) || leb 2 x && leb x 4 && eqb s 1 || eqb x clf && (leb 2 s && leb s 4)
+unheardWord s x = cond (eqb x rlg) (not (eqb s 5 || eqb s 12)) (cond (leb 2 x && leb x 4) (eqb s 1) (cond (eqb x clf) (leb 2 s && leb s 4) false))
 
 abbrev pub hears : Half → Bool
 hears (half s (ran p []) b) = true
