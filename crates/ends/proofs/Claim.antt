@@ -17,12 +17,12 @@ use Rattle.codes.specs.declared.Found.{Found}
 use Rattle.codes.specs.declared.Found.the-variants.{Is}
 use Rattle.ends.specs.Ends.{End, does, inOrder, Pair, acted, arrival, When, When.anyTime, When.inSilence, When.losingAll, When.never, whenGiven, empty, silence, emptied, given, Happening, Happening.arrives, Happening.host, turn, Reached, Reached.start, Reached.atFirst, Reached.atSecond, sameStage, awaiting, Agree, Claim, unheard, NextIsHeard, ClaimUnheard}
 use Rattle.ends.proofs.Words.{word, words, heard, heard-more, mute, quiet, kept, run, next, Run.ran, Half, Half.half, view, bloIn, allIn, has, at-has, is-true}
-use Rattle.ends.proofs.Events.{isWord}
+use Rattle.ends.proofs.Events.{isWord, said}
 use Rattle.ends.proofs.Moves.{Move, Move.to, moveOf, Table, among, causeOf, byCause, columns, look, completed, word-listed, host-listed}
-use Rattle.ends.proofs.Rooms.{Room, sound, agrees, hears, unheardWord, listed, inRole, closed, firstRoom}
+use Rattle.ends.proofs.Rooms.{Room, sound, agrees, hears, listed, inRole, closed, firstRoom}
 use Rattle.ends.proofs.Sound.{Inside, Lands, sound-here, by-host, by-loss, by-silence, by-word}
 use Rattle.ends.proofs.Explored.{rooms, tested}
-use Rattle.ends.proofs.Marks.{Marks, marks, resetIn, inStep, turned, swapped, known}
+use Rattle.ends.proofs.Marks.{Marks, told, resetIn, inStep, turned, swapped, known}
 
 table : Table
 table = look (columns true) (columns false)
@@ -101,8 +101,8 @@ stage s t h m n = at-rest (eqb s 5 || eqb s 12) (eqb t 5 || eqb t 12) (sameStage
 agreed : (x y : End) → Reached true false x y → x .coming ≡ [] → y .coming ≡ [] → T (not (awaiting x)) → T (not (awaiting y)) → Agree x y
 agreed x y r ex ey wx wy = record {
   call = stage (x .holds .state) (y .holds .state) (subst₂ (λ (w v : List Signal). T (agrees (view true (x .holds .state) (heard w)) (view false (y .holds .state) (heard v)))) ex ey (left (agrees (view true (x .holds .state) (heard (x .coming))) (view false (y .holds .state) (heard (y .coming)))) _ (sound-here table rooms shut (view true (x .holds .state) (heard (x .coming)), view false (y .holds .state) (heard (y .coming))) (i .calls)))) wx wy;
-  blockOfFirst = known (x .holds .own) (y .holds .far) (subst₂ (λ (w v : List Signal). T (inStep (x .holds .own) (marks (y .holds .far) (heard w)) (resetIn (heard v)))) ey ex (i .blocks .there));
-  blockOfSecond = known (y .holds .own) (x .holds .far) (subst₂ (λ (w v : List Signal). T (inStep (y .holds .own) (marks (x .holds .far) (heard w)) (resetIn (heard v)))) ex ey (i .blocks .back));
+  blockOfFirst = known (x .holds .own) (y .holds .far) (subst₂ (λ (w v : List Signal). T (inStep (x .holds .own) (told (y .holds .far) (heard w)) (resetIn (heard v)))) ey ex (i .blocks .there));
+  blockOfSecond = known (y .holds .own) (x .holds .far) (subst₂ (λ (w v : List Signal). T (inStep (y .holds .own) (told (x .holds .far) (heard w)) (resetIn (heard v)))) ex ey (i .blocks .back));
 }
   where
     i : Holds x y
@@ -134,7 +134,7 @@ twoEndsAgree own far cic different x y r ex ey wx wy = go (controls own far cic)
 
 -- the signals that never arrive
 
-same-unheard : (st : ℕ) (s : Signal) → unheard st s ≡ unheardWord st (word s)
+same-unheard : (st : ℕ) (s : Signal) → unheard st s ≡ unheard st (said (word s))
 same-unheard st Iam = refl
 same-unheard st (Acm octet) = refl
 same-unheard st Anc = refl
@@ -152,7 +152,7 @@ same-unheard st Uba = refl
 
 -- neither a quiet word nor a mute one is among them
 abbrev passes : Bool → ℕ → ℕ → Bool
-passes c s x = not (unheardWord s x) || not (quiet c s x) && not (mute x)
+passes c s x = not (unheard s (said x)) || not (quiet c s x) && not (mute x)
 
 passed : T (eachBool (λ c. eachBelow 13 (λ s. allIn (passes c s) words)))
 passed = tt
@@ -162,15 +162,15 @@ or-cut true b t = tt
 or-cut false true t = t
 or-cut false false t = t
 
-hears-next : (c : Bool) (s x : ℕ) (w : List ℕ) → T (passes c s x) → T (hears (view c s (x ∷ w))) → T (not (unheardWord s x))
+hears-next : (c : Bool) (s x : ℕ) (w : List ℕ) → T (passes c s x) → T (hears (view c s (x ∷ w))) → T (not (unheard s (said x)))
 hears-next c s x w = by-mute (mute x)
   where
-    by-quiet : (q : Bool) → T (not (unheardWord s x) || not q && true) → T (hears (half s (cond q (run c (next s x) (kept w)) (ran s (x ∷ kept w))) (bloIn (x ∷ w) && eqb s 1))) → T (not (unheardWord s x))
-    by-quiet true p h = or-cut (not (unheardWord s x)) true p
+    by-quiet : (q : Bool) → T (not (unheard s (said x)) || not q && true) → T (hears (half s (cond q (run c (next s x) (kept w)) (ran s (x ∷ kept w))) (bloIn (x ∷ w) && eqb s 1))) → T (not (unheard s (said x)))
+    by-quiet true p h = or-cut (not (unheard s (said x))) true p
     by-quiet false p h = rw (is-true (eqb s s) (eqb-refl s)) at h
 
-    by-mute : (m : Bool) → T (not (unheardWord s x) || not (quiet c s x) && not m) → T (hears (half s (run c s (cond m (kept w) (x ∷ kept w))) (bloIn (x ∷ w) && eqb s 1))) → T (not (unheardWord s x))
-    by-mute true p h = or-cut (not (unheardWord s x)) (not (quiet c s x)) p
+    by-mute : (m : Bool) → T (not (unheard s (said x)) || not (quiet c s x) && not m) → T (hears (half s (run c s (cond m (kept w) (x ∷ kept w))) (bloIn (x ∷ w) && eqb s 1))) → T (not (unheard s (said x)))
+    by-mute true p h = or-cut (not (unheard s (said x))) (not (quiet c s x)) p
     by-mute false p h = by-quiet (quiet c s x) p h
 
 next-heard : (c : Bool) (e : End) → T (valid (e .holds)) → T (hears (view c (e .holds .state) (heard (e .coming)))) → NextIsHeard e

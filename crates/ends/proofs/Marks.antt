@@ -17,7 +17,7 @@ use Rattle.circuit.specs.Every.{left, right, implies, then, eachBool, atBool}
 use Rattle.codes.specs.declared.Found.{Found}
 use Rattle.codes.specs.declared.Found.the-variants.{Is, Missing}
 use Rattle.step.specs.Step.{step, stepFound}
-use Rattle.ends.specs.Ends.{End, does, inOrder, Pair, acted, arrival, When, When.anyTime, When.inSilence, When.losingAll, When.never, whenGiven, silence, emptied, given, Happening, Happening.arrives, Happening.host, turn}
+use Rattle.ends.specs.Ends.{End, does, inOrder, Pair, acted, arrival, When, When.anyTime, When.inSilence, When.losingAll, When.never, whenGiven, silence, emptied, given, marks, Happening, Happening.arrives, Happening.host, turn}
 use Rattle.ends.proofs.Words.{blo, ubl, rsc, word, heard, heard-more, sameBool}
 use Rattle.ends.proofs.Events.{said, alike, everywhere, atWord, atHost}
 
@@ -25,9 +25,9 @@ use Rattle.ends.proofs.Events.{said, alike, everywhere, atWord, atHost}
 abbrev marked : Bool → ℕ → Bool
 marked m x = cond (eqb x blo) true (cond (eqb x ubl || eqb x rsc) false m)
 
-abbrev pub marks : Bool → List ℕ → Bool
-marks m [] = m
-marks m (x ∷ w) = marks (marked m x) w
+abbrev pub told : Bool → List ℕ → Bool
+told m [] = m
+told m (x ∷ w) = told (marked m x) w
 
 abbrev pub resetIn : List ℕ → Bool
 resetIn [] = false
@@ -39,22 +39,22 @@ inStep true m z = m || z
 inStep false m z = not m
 
 pub record Marks (x y : End) : Type 0 where
-  pub there : T (inStep (x .holds .own) (marks (y .holds .far) (heard (y .coming))) (resetIn (heard (x .coming))))
-  pub back : T (inStep (y .holds .own) (marks (x .holds .far) (heard (x .coming))) (resetIn (heard (y .coming))))
+  pub there : T (inStep (x .holds .own) (told (y .holds .far) (heard (y .coming))) (resetIn (heard (x .coming))))
+  pub back : T (inStep (y .holds .own) (told (x .holds .far) (heard (x .coming))) (resetIn (heard (y .coming))))
   pub mine : T (valid (x .holds))
   pub yours : T (valid (y .holds))
 
 -- queues
 
-marks-more : (m : Bool) (w o : List ℕ) → marks m (w ++ o) ≡ marks (marks m w) o
-marks-more m [] o = refl
-marks-more m (x ∷ w) o = marks-more (marked m x) w o
+told-more : (m : Bool) (w o : List ℕ) → told m (w ++ o) ≡ told (told m w) o
+told-more m [] o = refl
+told-more m (x ∷ w) o = told-more (marked m x) w o
 
-marks-fewer : (w : List ℕ) → T (not (marks true w)) → T (not (marks false w))
-marks-fewer [] t = absurd t
-marks-fewer (x ∷ w) t = by (eqb x blo) (eqb x ubl || eqb x rsc) t (marks-fewer w)
+told-fewer : (w : List ℕ) → T (not (told true w)) → T (not (told false w))
+told-fewer [] t = absurd t
+told-fewer (x ∷ w) t = by (eqb x blo) (eqb x ubl || eqb x rsc) t (told-fewer w)
   where
-    by : (a b : Bool) → T (not (marks (cond a true (cond b false true)) w)) → (T (not (marks true w)) → T (not (marks false w))) → T (not (marks (cond a true (cond b false false)) w))
+    by : (a b : Bool) → T (not (told (cond a true (cond b false true)) w)) → (T (not (told true w)) → T (not (told false w))) → T (not (told (cond a true (cond b false false)) w))
     by true b t ih = t
     by false true t ih = t
     by false false t ih = ih t
@@ -73,12 +73,12 @@ farKept far new sent = sameBool new far || not new && sent
 
 -- m: the other's mark of this end when all has arrived; z, u: an RSC is on its way to this end, before and after
 abbrev keeps : Record → (m z u far : Bool) → Outcome → Bool
-keeps r m z u far o = implies (inStep (r .own) m z) (inStep (o .after .own) (marks m (heard (inOrder (o .sends)))) u)
+keeps r m z u far o = implies (inStep (r .own) m z) (inStep (o .after .own) (told m (heard (inOrder (o .sends)))) u)
     && (valid (o .after) && farKept far (o .after .far) (resetIn (heard (inOrder (o .sends)))))
 
 -- with everything lost, there is nothing to keep: both marks are clear and an RSC goes out
 abbrev clears : Bool → Outcome → Bool
-clears m o = inStep (o .after .own) (marks m (heard (inOrder (o .sends)))) false && (valid (o .after) && (not (o .after .far) && resetIn (heard (inOrder (o .sends)))))
+clears m o = inStep (o .after .own) (told m (heard (inOrder (o .sends)))) false && (valid (o .after) && (not (o .after .far) && resetIn (heard (inOrder (o .sends)))))
 
 abbrev wordKeeps : Bool → Record → ℕ → Bool
 wordKeeps c r k = eachBool (λ m. eachBool (λ z. keeps r m (eqb k rsc || z) z (marked (r .far) k) (does c r (Is (Arrives (said k))))))
@@ -108,9 +108,9 @@ in-step-more true false false sent u k h = absurd h
 in-step-more false m z sent u k h = h
 
 -- the other's block, when this end's far mark is kept or an RSC goes out
-back-kept : (own far new : Bool) (w : List ℕ) (z sent u : Bool) → (T (z || sent) → T u) → T (farKept far new sent) → T (inStep own (marks far w) z) → T (inStep own (marks new w) u)
-back-kept own true true w z sent u k f h = in-step-more own (marks true w) z sent u k h
-back-kept own false false w z sent u k f h = in-step-more own (marks false w) z sent u k h
+back-kept : (own far new : Bool) (w : List ℕ) (z sent u : Bool) → (T (z || sent) → T u) → T (farKept far new sent) → T (inStep own (told far w) z) → T (inStep own (told new w) u)
+back-kept own true true w z sent u k f h = in-step-more own (told true w) z sent u k h
+back-kept own false false w z sent u k f h = in-step-more own (told false w) z sent u k h
 back-kept own false true w z sent u k f h = absurd f
 back-kept own true false w z sent u k f h = by own z k h
   where
@@ -118,35 +118,35 @@ back-kept own true false w z sent u k f h = by own z k h
     or-u true t = tt
     or-u false t = t
 
-    by : (own z : Bool) → (T (z || sent) → T u) → T (inStep own (marks true w) z) → T (inStep own (marks false w) u)
-    by true true k h = or-u (marks false w) (k tt)
-    by true false k h = or-u (marks false w) (k f)
-    by false z k h = marks-fewer w h
+    by : (own z : Bool) → (T (z || sent) → T u) → T (inStep own (told true w) z) → T (inStep own (told false w) u)
+    by true true k h = or-u (told false w) (k tt)
+    by true false k h = or-u (told false w) (k f)
+    by false z k h = told-fewer w h
 
 -- an end acts, and what it does has passed the test
 acts : (r : Record) (z : Bool) (rest : List Signal) (far : Bool) (other : End) (o : Outcome)
-    → T (inStep (r .own) (marks (other .holds .far) (heard (other .coming))) z)
-    → T (inStep (other .holds .own) (marks far (heard rest)) (resetIn (heard (other .coming))))
-    → T (valid (other .holds)) → T (keeps r (marks (other .holds .far) (heard (other .coming))) z (resetIn (heard rest)) far o) → MarksPair (acted o rest other)
+    → T (inStep (r .own) (told (other .holds .far) (heard (other .coming))) z)
+    → T (inStep (other .holds .own) (told far (heard rest)) (resetIn (heard (other .coming))))
+    → T (valid (other .holds)) → T (keeps r (told (other .holds .far) (heard (other .coming))) z (resetIn (heard rest)) far o) → MarksPair (acted o rest other)
 acts r z rest far other o there back yours test = record {
-  there = rw (heard-more (other .coming) (inOrder (o .sends)), marks-more (other .holds .far) (heard (other .coming)) (heard (inOrder (o .sends)))) (then (inStep (r .own) M z) _ (left (implies (inStep (r .own) M z) (inStep (o .after .own) (marks M sent) (resetIn (heard rest)))) _ test) there);
+  there = rw (heard-more (other .coming) (inOrder (o .sends)), told-more (other .holds .far) (heard (other .coming)) (heard (inOrder (o .sends)))) (then (inStep (r .own) M z) _ (left (implies (inStep (r .own) M z) (inStep (o .after .own) (told M sent) (resetIn (heard rest)))) _ test) there);
   back = rw (heard-more (other .coming) (inOrder (o .sends))) (back-kept (other .holds .own) far (o .after .far) (heard rest) (resetIn (heard (other .coming))) (resetIn sent) _ (reset-more (heard (other .coming)) sent) (right (valid (o .after)) _ two) back);
   mine = left (valid (o .after)) _ two;
   yours = yours;
 }
   where
     M : Bool
-    M = marks (other .holds .far) (heard (other .coming))
+    M = told (other .holds .far) (heard (other .coming))
 
     sent : List ℕ
     sent = heard (inOrder (o .sends))
 
     two : T (valid (o .after) && farKept far (o .after .far) (resetIn sent))
-    two = right (implies (inStep (r .own) M z) (inStep (o .after .own) (marks M sent) (resetIn (heard rest)))) _ test
+    two = right (implies (inStep (r .own) M z) (inStep (o .after .own) (told M sent) (resetIn (heard rest)))) _ test
 
 module _ (c : Bool) (other : End) where
   abbrev N : Bool
-  N = marks (other .holds .far) (heard (other .coming))
+  N = told (other .holds .far) (heard (other .coming))
 
   arrived : (r : Record) (q : List Signal) → Marks (record { holds = r; coming = q }) other → MarksPair (arrival c r q other)
   arrived r [] i = i
@@ -162,7 +162,7 @@ module _ (c : Bool) (other : End) where
 
   -- everything on its way is lost
   lost : (o : Outcome) → T (valid (other .holds)) → T (eachBool (λ m. clears m o)) → MarksPair (acted o [] (emptied other))
-  lost o yours test = record { there = left (inStep (o .after .own) (marks (other .holds .far) sent) false) _ one; back = by (other .holds .own) (o .after .far) (resetIn sent) (right (valid (o .after)) _ two); mine = left (valid (o .after)) _ two; yours = yours }
+  lost o yours test = record { there = left (inStep (o .after .own) (told (other .holds .far) sent) false) _ one; back = by (other .holds .own) (o .after .far) (resetIn sent) (right (valid (o .after)) _ two); mine = left (valid (o .after)) _ two; yours = yours }
     where
       sent : List ℕ
       sent = heard (inOrder (o .sends))
@@ -171,7 +171,7 @@ module _ (c : Bool) (other : End) where
       one = atBool (λ m. clears m o) test (other .holds .far)
 
       two : T (valid (o .after) && (not (o .after .far) && resetIn sent))
-      two = right (inStep (o .after .own) (marks (other .holds .far) sent) false) _ one
+      two = right (inStep (o .after .own) (told (other .holds .far) sent) false) _ one
 
       by : (own far z : Bool) → T (not far && z) → T (inStep own far z)
       by true false true t = tt
@@ -202,8 +202,8 @@ pub swapped : {x y : End} → Marks x y → Marks y x
 swapped i = record { there = i .back; back = i .there; mine = i .yours; yours = i .mine }
 
 -- with nothing on its way, the far mark is the other's block
-pub known : (own far : Bool) → T (inStep own far false) → far ≡ own
-known true true h = refl
-known true false h = absurd h
-known false true h = absurd h
-known false false h = refl
+at-rest : T (eachBool (λ own. eachBool (λ far. implies (inStep own far false) (marks far own))))
+at-rest = tt
+
+pub known : (own far : Bool) → T (inStep own far false) → T (marks far own)
+known own far = then (inStep own far false) (marks far own) (atBool (λ far. implies (inStep own far false) (marks far own)) (atBool (λ own. eachBool (λ far. implies (inStep own far false) (marks far own))) at-rest own) far)

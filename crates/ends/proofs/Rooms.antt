@@ -5,8 +5,9 @@ use mathlib.Core.Bool.{Bool, true, false, cond, not, _&&_, _||_}
 use mathlib.Core.List.{List, [], _∷_, _++_}
 use Prim.Native.Nat.{ℕ, zero, suc}
 use lib.Dec.{T, eqb, leb}
-use Rattle.ends.specs.Ends.{sameStage, When.anyTime, When.inSilence, When.losingAll}
-use Rattle.ends.proofs.Words.{words, iam, clf, rlg, blo, mute, quiet, next, Run, Run.ran, run, restOf, Half, Half.half, sameHalf, joinAll, endOf, reach, outgoing, allIn, has, family, absorbs}
+use Rattle.ends.specs.Ends.{sameStage, unheard, When.anyTime, When.inSilence, When.losingAll}
+use Rattle.ends.proofs.Words.{words, blo, mute, quiet, next, Run, Run.ran, run, restOf, Half, Half.half, sameHalf, joinAll, endOf, reach, outgoing, allIn, has, family, absorbs}
+use Rattle.ends.proofs.Events.{said}
 use Rattle.ends.proofs.Moves.{Move, Move.to, Table, causeOf}
 
 abbrev pub Room : Type 0
@@ -78,13 +79,10 @@ follows m c (half s r b) y = byWords m c s r b y ++ (byHost m c s r b y ++ (byLo
 abbrev pub agrees : Half → Half → Bool
 agrees (half s r b) (half t q d) = not (nothingComes (half s r b) && nothingComes (half t q d)) || (eqb s 5 || eqb s 12 || (eqb t 5 || eqb t 12) || (sameStage s t || sameStage t s))
 
--- the words that never arrive: RLG but in 5 and 12; an answer, CBK, RAN in 1; CLF in 2..4
-abbrev pub unheardWord : ℕ → ℕ → Bool
-unheardWord s x = cond (eqb x rlg) (not (eqb s 5 || eqb s 12)) (cond (leb 2 x && leb x 4) (eqb s 1) (cond (eqb x clf) (leb 2 s && leb s 4) false))
-
+-- what arrives next is no signal that is never heard
 abbrev pub hears : Half → Bool
 hears (half s (ran p []) b) = true
-hears (half s (ran p (x ∷ u)) b) = not (eqb s p && unheardWord s x)
+hears (half s (ran p (x ∷ u)) b) = not (eqb s p && unheard s (said x))
 
 abbrev pub sound : Room → Bool
 sound r = agrees (r .0) (r .1) && (hears (r .0) && hears (r .1))

@@ -79,12 +79,12 @@ module _ (l : List Room) (c : Bool) (w : List ℕ) (t : ℕ) (v : List ℕ) wher
   went : (s : ℕ) (b sure : Bool) → (T sure → b ≡ (bloIn w && eqb s 1)) → (T (not (eqb s 1)) → b ≡ (bloIn w && eqb s 1)) → (mv : Move) → Meets l c (goes c s (run c s (kept w)) b y sure mv) → Lands l c w t v mv
   went s b sure known other (to n o) =
       either l c (eqb n s && (sure || not (eqb n 1))) _ _
-        (λ p h.
-          let e : n ≡ s = eqb→eq n s (left (eqb n s) _ p) in
-          rw e (arrived s o (rw (bit sure (eqb s 1) known other (rw e at (right (eqb n s) _ p))) at (left (listed l (inRole c (half s (run c s (kept w)) b) (joinAll (not c) y o))) _ h))))
-        (either l c (has s (family s) && absorbs c n (family s)) _ _
-          (λ p h. arrived n o (came s (run c s (kept w)) b n (run c n (kept w)) o (rw (← (run-absorbs c n (family s) (right (has s (family s)) _ p) s (left (has s (family s)) _ p) (kept w))) at h) (bloIn w)))
-          (λ h. absurd h))
+      (λ p h.
+      let e : n ≡ s = eqb→eq n s (left (eqb n s) _ p) in
+      rw e (arrived s o (rw (bit sure (eqb s 1) known other (rw e at (right (eqb n s) _ p))) at (left (listed l (inRole c (half s (run c s (kept w)) b) (joinAll (not c) y o))) _ h))))
+      (either l c (has s (family s) && absorbs c n (family s)) _ _
+      (λ p h. arrived n o (came s (run c s (kept w)) b n (run c n (kept w)) o (rw (← (run-absorbs c n (family s) (right (has s (family s)) _ p) s (left (has s (family s)) _ p) (kept w))) at h) (bloIn w)))
+      (λ h. absurd h))
     where
       bit : (k e : Bool) → (T k → b ≡ (bloIn w && eqb s 1)) → (T (not e) → b ≡ (bloIn w && eqb s 1)) → T (k || not e) → b ≡ (bloIn w && eqb s 1)
       bit true e f g p = f tt
@@ -93,13 +93,13 @@ module _ (l : List Room) (c : Bool) (w : List ℕ) (t : ℕ) (v : List ℕ) wher
   glided : (s x : ℕ) (b : Bool) → b ≡ (bloIn w && eqb s 1) → (mv : Move) → Meets l c (glides c s (run c (next s x) (kept w)) b y x mv) → Lands l c w t v mv
   glided s x b known (to n o) =
       either l c (eqb n (next s x)) _ _
-        (λ p. let e : n ≡ next s x = eqb→eq n (next s x) p in
-          either l c (eqb n s) _ _
-            (λ q h. let d : n ≡ s = eqb→eq n s q in rw d (arrived s o (rw (← e, d, known) at (left (listed l (inRole c (half s (run c (next s x) (kept w)) b) (joinAll (not c) y o))) _ h))))
-            (either l c (has n outgoing) _ _
-              (λ q h. arrived n o (rw (← e) at (came s (run c (next s x) (kept w)) b n (run c (next s x) (kept w)) o (reached (has (endOf (run c (next s x) (kept w))) (reach n)) _ (rw e (run-ends c (next s x) (rw e at q) (kept w))) h) (bloIn w))))
-              (λ h. absurd h)))
-        (λ h. absurd h)
+      (λ p. let e : n ≡ next s x = eqb→eq n (next s x) p in
+      either l c (eqb n s) _ _
+      (λ q h. let d : n ≡ s = eqb→eq n s q in rw d (arrived s o (rw (← e, d, known) at (left (listed l (inRole c (half s (run c (next s x) (kept w)) b) (joinAll (not c) y o))) _ h))))
+      (either l c (has n outgoing) _ _
+      (λ q h. arrived n o (rw (← e) at (came s (run c (next s x) (kept w)) b n (run c (next s x) (kept w)) o (reached (has (endOf (run c (next s x) (kept w))) (reach n)) _ (rw e (run-ends c (next s x) (rw e at q) (kept w))) h) (bloIn w))))
+      (λ h. absurd h)))
+      (λ h. absurd h)
     where
       reached : (q : Bool) (k : List Need) → T q → Meets l c (cond q k []) → Meets l c k
       reached true k q h = h

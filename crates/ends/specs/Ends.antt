@@ -125,10 +125,16 @@ sameStage p q = eqb p 0 && eqb q 0 || eqb p 1 && eqb q 6 || eqb p 2 && (eqb q 7 
 abbrev pub awaiting : End → Bool
 awaiting e = eqb (e .holds .state) 5 || eqb (e .holds .state) 12
 
+-- the far-block mark of one end equals the own block of the other
+abbrev pub marks : (far own : Bool) → Bool
+marks true own = own
+marks false own = not own
+
+-- one end is outgoing and the other incoming at the same stage, or both are idle; and each knows the other's block
 pub record Agree (x y : End) : Type 0 where
   pub call : T (sameStage (x .holds .state) (y .holds .state) || sameStage (y .holds .state) (x .holds .state))
-  pub blockOfFirst : y .holds .far ≡ x .holds .own
-  pub blockOfSecond : x .holds .far ≡ y .holds .own
+  pub blockOfFirst : T (marks (y .holds .far) (x .holds .own))
+  pub blockOfSecond : T (marks (x .holds .far) (y .holds .own))
 
 -- Demand 3, for every circuit number and every two different point codes: whenever nothing is on its way and neither end is in 5 or 12,
 -- the two ends agree on the call and on both blocks.
