@@ -1,0 +1,41 @@
+-- The rooms that are reached from the first one, found by following every happening, and one test of them all.
+-- Assumes nothing.
+use mathlib.Core.Bool.{Bool, true, false, cond, _&&_}
+use mathlib.Core.List.{List, [], _∷_}
+use Prim.Native.Nat.{ℕ, zero, suc}
+use lib.Dec.{T}
+use Rattle.circuit.specs.Rows.{first}
+use Rattle.step.specs.Step.{step, stepFound}
+use Rattle.ends.specs.Ends.{does}
+use Rattle.ends.proofs.Moves.{Table, Columns, columns, look}
+use Rattle.ends.proofs.Rooms.{Need, Need.room, Need.impossible, Room, inRole, follows, listed, closedAt, closed, firstRoom}
+
+-- rooms to follow, rooms found
+data Search : Type 0 where
+  search-of : List Room → List Room → Search
+
+abbrev add : Bool → Room → List Room → List Room → Search
+add true r todo found = search-of todo found
+add false r todo found = search-of (r ∷ todo) (r ∷ found)
+
+-- the needs of the room r
+abbrev addAll : Room → Bool → List Need → Search → Search
+addAll r c [] q = q
+addAll r c (impossible ∷ l) q = addAll r c l q
+addAll r c (room me you ∷ l) (search-of todo found) = addAll r c l (add (listed (r ∷ found) (inRole c me you)) (inRole c me you) todo found)
+
+-- fuel: at most so many rooms are followed
+explore : Table → ℕ → Search → List Room
+unfolding follows
+explore m zero (search-of todo found) = found
+explore m (suc n) (search-of [] found) = found
+explore m (suc n) (search-of (r ∷ todo) found) = explore m n (addAll r true (follows m true (r .0) (r .1)) (addAll r false (follows m false (r .1) (r .0)) (search-of todo found)))
+
+pub rooms : List Room
+unfolding explore columns does stepFound step first
+rooms = explore (look (columns true) (columns false)) 200 (search-of (firstRoom ∷ []) (firstRoom ∷ []))
+
+-- the first room is listed, and whatever happens in a room leads into a listed one
+pub tested : T (listed rooms firstRoom && closed (look (columns true) (columns false)) rooms)
+unfolding rooms closedAt columns does stepFound step first
+tested = tt

@@ -1,0 +1,209 @@
+-- The blocks: what an end holds of the other's block, brought up to date by what is on its way to it, is what the other has. Or an RSC is on its
+-- way to the other, which will then say its block again. And records stay valid.
+-- What an event does to the marks is one test over all records and events.
+-- Assumes nothing.
+use mathlib.Core.Bool.{Bool, true, false, cond, not, _&&_, _||_}
+use mathlib.Core.List.{List, [], _∷_, _++_}
+use mathlib.Core.Path.{_≡_, refl, subst}
+use Prim.Native.Nat.{ℕ}
+use lib.Dec.{T, eqb}
+use Rattle.circuit.specs.declared.Record.{Record}
+use Rattle.circuit.specs.declared.Signal.{Signal}
+use Rattle.circuit.specs.declared.Event.the-variants.{Arrives, Ordered, RunsOut}
+use Rattle.circuit.specs.declared.Outcome.{Outcome}
+use Rattle.circuit.specs.Records.{valid}
+use Rattle.circuit.specs.Rows.{first}
+use Rattle.circuit.specs.Every.{left, right, implies, then, eachBool, atBool}
+use Rattle.codes.specs.declared.Found.{Found}
+use Rattle.codes.specs.declared.Found.the-variants.{Is, Missing}
+use Rattle.step.specs.Step.{step, stepFound}
+use Rattle.ends.specs.Ends.{End, does, inOrder, Pair, acted, arrival, When, When.anyTime, When.inSilence, When.losingAll, When.never, whenGiven, silence, emptied, given, marks, Happening, Happening.arrives, Happening.host, turn}
+use Rattle.ends.proofs.Words.{blo, ubl, rsc, word, heard, heard-more, sameBool}
+use Rattle.ends.proofs.Events.{said, alike, everywhere, atWord, atHost}
+
+-- the far mark after a word, and after a queue: BLO sets it, UBL and RSC clear it
+abbrev marked : Bool → ℕ → Bool
+marked m x = cond (eqb x blo) true (cond (eqb x ubl || eqb x rsc) false m)
+
+abbrev pub told : Bool → List ℕ → Bool
+told m [] = m
+told m (x ∷ w) = told (marked m x) w
+
+abbrev pub resetIn : List ℕ → Bool
+resetIn [] = false
+resetIn (x ∷ w) = eqb x rsc || resetIn w
+
+-- an end's own block, the other's mark of it when all has arrived, an RSC on its way to the end
+abbrev pub inStep : Bool → Bool → Bool → Bool
+inStep true m z = m || z
+inStep false m z = not m
+
+pub record Marks (x y : End) : Type 0 where
+  pub there : T (inStep (x .holds .own) (told (y .holds .far) (heard (y .coming))) (resetIn (heard (x .coming))))
+  pub back : T (inStep (y .holds .own) (told (x .holds .far) (heard (x .coming))) (resetIn (heard (y .coming))))
+  pub mine : T (valid (x .holds))
+  pub yours : T (valid (y .holds))
+
+-- queues
+
+told-more : (m : Bool) (w o : List ℕ) → told m (w ++ o) ≡ told (told m w) o
+told-more m [] o = refl
+told-more m (x ∷ w) o = told-more (marked m x) w o
+
+told-fewer : (w : List ℕ) → T (not (told true w)) → T (not (told false w))
+told-fewer [] t = absurd t
+told-fewer (x ∷ w) t = by (eqb x blo) (eqb x ubl || eqb x rsc) t (told-fewer w)
+  where
+    by : (a b : Bool) → T (not (told (cond a true (cond b false true)) w)) → (T (not (told true w)) → T (not (told false w))) → T (not (told (cond a true (cond b false false)) w))
+    by true b t ih = t
+    by false true t ih = t
+    by false false t ih = ih t
+
+reset-more : (w o : List ℕ) → T (resetIn w || resetIn o) → T (resetIn (w ++ o))
+reset-more [] o t = t
+reset-more (x ∷ w) o t = by (eqb x rsc) t (reset-more w o)
+  where
+    by : (a : Bool) → T ((a || resetIn w) || resetIn o) → (T (resetIn w || resetIn o) → T (resetIn (w ++ o))) → T (a || resetIn (w ++ o))
+    by true t ih = tt
+    by false t ih = ih t
+
+-- An event keeps the marks in step: the far mark becomes `far`, or is cleared while an RSC goes out.
+abbrev farKept : (far new sent : Bool) → Bool
+farKept far new sent = sameBool new far || not new && sent
+
+-- m: the other's mark of this end when all has arrived; z, u: an RSC is on its way to this end, before and after
+abbrev keeps : Record → (m z u far : Bool) → Outcome → Bool
+keeps r m z u far o = implies (inStep (r .own) m z) (inStep (o .after .own) (told m (heard (inOrder (o .sends)))) u)
+    && (valid (o .after) && farKept far (o .after .far) (resetIn (heard (inOrder (o .sends)))))
+
+-- with everything lost, there is nothing to keep: both marks are clear and an RSC goes out
+abbrev clears : Bool → Outcome → Bool
+clears m o = inStep (o .after .own) (told m (heard (inOrder (o .sends)))) false && (valid (o .after) && (not (o .after .far) && resetIn (heard (inOrder (o .sends)))))
+
+abbrev wordKeeps : Bool → Record → ℕ → Bool
+wordKeeps c r k = eachBool (λ m. eachBool (λ z. keeps r m (eqb k rsc || z) z (marked (r .far) k) (does c r (Is (Arrives (said k))))))
+
+abbrev hostKeepsWhen : When → Record → Outcome → Bool
+hostKeepsWhen anyTime r o = eachBool (λ m. eachBool (λ z. keeps r m z z (r .far) o))
+hostKeepsWhen inSilence r o = eachBool (λ m. eachBool (λ z. keeps r m z z (r .far) o))
+hostKeepsWhen losingAll r o = eachBool (λ m. clears m o)
+hostKeepsWhen never r o = true
+
+abbrev hostKeeps : Bool → Record → Found → Bool
+hostKeeps c r e = hostKeepsWhen (whenGiven e) r (does c r e)
+
+kept-in-step : T (everywhere wordKeeps hostKeeps)
+unfolding does stepFound step first
+kept-in-step = tt
+
+-- from the test to the ends
+
+abbrev MarksPair : Pair → Type 0
+MarksPair p = Marks (p .0) (p .1)
+
+in-step-more : (own m z sent u : Bool) → (T (z || sent) → T u) → T (inStep own m z) → T (inStep own m u)
+in-step-more true true z sent u k h = tt
+in-step-more true false true sent u k h = k tt
+in-step-more true false false sent u k h = absurd h
+in-step-more false m z sent u k h = h
+
+-- the other's block, when this end's far mark is kept or an RSC goes out
+back-kept : (own far new : Bool) (w : List ℕ) (z sent u : Bool) → (T (z || sent) → T u) → T (farKept far new sent) → T (inStep own (told far w) z) → T (inStep own (told new w) u)
+back-kept own true true w z sent u k f h = in-step-more own (told true w) z sent u k h
+back-kept own false false w z sent u k f h = in-step-more own (told false w) z sent u k h
+back-kept own false true w z sent u k f h = absurd f
+back-kept own true false w z sent u k f h = by own z k h
+  where
+    or-u : (m : Bool) → T u → T (m || u)
+    or-u true t = tt
+    or-u false t = t
+
+    by : (own z : Bool) → (T (z || sent) → T u) → T (inStep own (told true w) z) → T (inStep own (told false w) u)
+    by true true k h = or-u (told false w) (k tt)
+    by true false k h = or-u (told false w) (k f)
+    by false z k h = told-fewer w h
+
+-- an end acts, and what it does has passed the test
+acts : (r : Record) (z : Bool) (rest : List Signal) (far : Bool) (other : End) (o : Outcome)
+    → T (inStep (r .own) (told (other .holds .far) (heard (other .coming))) z)
+    → T (inStep (other .holds .own) (told far (heard rest)) (resetIn (heard (other .coming))))
+    → T (valid (other .holds)) → T (keeps r (told (other .holds .far) (heard (other .coming))) z (resetIn (heard rest)) far o) → MarksPair (acted o rest other)
+acts r z rest far other o there back yours test = record {
+  there = rw (heard-more (other .coming) (inOrder (o .sends)), told-more (other .holds .far) (heard (other .coming)) (heard (inOrder (o .sends)))) (then (inStep (r .own) M z) _ (left (implies (inStep (r .own) M z) (inStep (o .after .own) (told M sent) (resetIn (heard rest)))) _ test) there);
+  back = rw (heard-more (other .coming) (inOrder (o .sends))) (back-kept (other .holds .own) far (o .after .far) (heard rest) (resetIn (heard (other .coming))) (resetIn sent) _ (reset-more (heard (other .coming)) sent) (right (valid (o .after)) _ two) back);
+  mine = left (valid (o .after)) _ two;
+  yours = yours;
+}
+  where
+    M : Bool
+    M = told (other .holds .far) (heard (other .coming))
+
+    sent : List ℕ
+    sent = heard (inOrder (o .sends))
+
+    two : T (valid (o .after) && farKept far (o .after .far) (resetIn sent))
+    two = right (implies (inStep (r .own) M z) (inStep (o .after .own) (told M sent) (resetIn (heard rest)))) _ test
+
+module _ (c : Bool) (other : End) where
+  abbrev N : Bool
+  N = told (other .holds .far) (heard (other .coming))
+
+  arrived : (r : Record) (q : List Signal) → Marks (record { holds = r; coming = q }) other → MarksPair (arrival c r q other)
+  arrived r [] i = i
+  arrived r (x ∷ rest) i = acts r (eqb (word x) rsc || Z) rest (marked (r .far) (word x)) other (does c r (Is (Arrives x))) (i .there) (i .back) (i .yours)
+      (rw (alike c r x) (atBool (λ z. keeps r N (eqb (word x) rsc || z) z (marked (r .far) (word x)) O) (atBool (λ m. eachBool (λ z. keeps r m (eqb (word x) rsc || z) z (marked (r .far) (word x)) O))
+      (atWord wordKeeps hostKeeps kept-in-step c r (i .mine) x) N) Z))
+    where
+      Z : Bool
+      Z = resetIn (heard rest)
+
+      O : Outcome
+      O = does c r (Is (Arrives (said (word x))))
+
+  -- everything on its way is lost
+  lost : (o : Outcome) → T (valid (other .holds)) → T (eachBool (λ m. clears m o)) → MarksPair (acted o [] (emptied other))
+  lost o yours test = record { there = left (inStep (o .after .own) (told (other .holds .far) sent) false) _ one; back = by (other .holds .own) (o .after .far) (resetIn sent) (right (valid (o .after)) _ two); mine = left (valid (o .after)) _ two; yours = yours }
+    where
+      sent : List ℕ
+      sent = heard (inOrder (o .sends))
+
+      one : T (clears (other .holds .far) o)
+      one = atBool (λ m. clears m o) test (other .holds .far)
+
+      two : T (valid (o .after) && (not (o .after .far) && resetIn sent))
+      two = right (inStep (o .after .own) (told (other .holds .far) sent) false) _ one
+
+      by : (own far z : Bool) → T (not far && z) → T (inStep own far z)
+      by true false true t = tt
+      by true true z t = absurd t
+      by true false false t = absurd t
+      by false false z t = tt
+      by false true z t = absurd t
+
+  plainly : (me : End) → Marks me other → (o : Outcome) → T (hostKeepsWhen anyTime (me .holds) o) → MarksPair (acted o (me .coming) other)
+  plainly me i o test = acts (me .holds) (resetIn (heard (me .coming))) (me .coming) (me .holds .far) other o (i .there) (i .back) (i .yours)
+      (atBool (λ z. keeps (me .holds) N z z (me .holds .far) o) (atBool (λ m. eachBool (λ z. keeps (me .holds) m z z (me .holds .far) o)) test N) (resetIn (heard (me .coming))))
+
+  hosted : (me : End) → Marks me other → (e : Found) (w : When) → T (hostKeepsWhen w (me .holds) (does c (me .holds) e)) → MarksPair (given w c e me other)
+  hosted me i e anyTime test = plainly me i (does c (me .holds) e) test
+  hosted me i e inSilence test = by (silence me other)
+    where
+      by : (s : Bool) → MarksPair (cond s (acted (does c (me .holds) e) (me .coming) other) (me, other))
+      by true = plainly me i (does c (me .holds) e) test
+      by false = i
+  hosted me i e losingAll test = lost (does c (me .holds) e) (i .yours) test
+  hosted me i e never test = i
+
+  pub turned : (me : End) → Marks me other → (h : Happening) → MarksPair (turn c h me other)
+  turned me i arrives = arrived (me .holds) (me .coming) i
+  turned me i (host e) = hosted me i e (whenGiven e) (atHost wordKeeps hostKeeps kept-in-step c (me .holds) (i .mine) (λ x. tt) e)
+
+pub swapped : {x y : End} → Marks x y → Marks y x
+swapped i = record { there = i .back; back = i .there; mine = i .yours; yours = i .mine }
+
+-- with nothing on its way, the far mark is the other's block
+at-rest : T (eachBool (λ own. eachBool (λ far. implies (inStep own far false) (marks far own))))
+at-rest = tt
+
+pub known : (own far : Bool) → T (inStep own far false) → T (marks far own)
+known own far = then (inStep own far false) (marks far own) (atBool (λ far. implies (inStep own far false) (marks far own)) (atBool (λ own. eachBool (λ far. implies (inStep own far false) (marks far own))) at-rest own) far)

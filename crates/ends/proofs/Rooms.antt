@@ -1,0 +1,117 @@
+-- A room is a pair of halves, the controlling end's first. What must be a room as well when something happens in one, and what a list of rooms
+-- must meet so that the ends never leave it.
+-- Assumes nothing.
+use mathlib.Core.Bool.{Bool, true, false, cond, not, _&&_, _||_}
+use mathlib.Core.List.{List, [], _∷_, _++_}
+use Prim.Native.Nat.{ℕ, zero, suc}
+use lib.Dec.{T, eqb, leb}
+use Rattle.ends.specs.Ends.{sameStage, unheard, When.anyTime, When.inSilence, When.losingAll}
+use Rattle.ends.proofs.Words.{words, blo, mute, quiet, next, Run, Run.ran, run, restOf, Half, Half.half, sameHalf, joinAll, endOf, reach, outgoing, allIn, has, family, absorbs}
+use Rattle.ends.proofs.Events.{said}
+use Rattle.ends.proofs.Moves.{Move, Move.to, Table, causeOf}
+
+abbrev pub Room : Type 0
+Room = Half × Half
+
+-- a room that must be listed, by the end where something happens and the other; or what must not come up
+pub data Need : Type 0 where
+  room : Half → Half → Need
+  impossible : Need
+
+abbrev pub over : {A : Type 0} → (A → List Need) → List A → List Need
+over f [] = []
+over f (x ∷ l) = f x ++ over f l
+
+-- an end (role c, state s, run r, a BLO on its way b) makes a move, with y the other end
+module _ (c : Bool) (s : ℕ) (r : Run) (b : Bool) (y : Half) where
+  -- it comes to state n with the run q; in state 1 a BLO may be on its way or not
+  abbrev pub comes : ℕ → Run → List ℕ → List Need
+  comes n q o = room (half n q false) (joinAll (not c) y o) ∷ cond (eqb n 1) (room (half n q true) (joinAll (not c) y o) ∷ []) []
+
+  abbrev pub stays : List ℕ → List Need
+  stays o = room (half s r b) (joinAll (not c) y o) ∷ []
+
+  -- its queue is as it was, but for mute words; sure: not for a BLO
+  abbrev pub goes : Bool → Move → List Need
+  goes sure (to n o) = cond (eqb n s && (sure || not (eqb n 1))) (stays o)
+      (cond (has s (family s) && absorbs c n (family s)) (comes n (run c n (restOf r)) o) (impossible ∷ []))
+
+  -- it takes the quiet word x; where its call goes on, the run ends in a state that can still be reached
+  abbrev pub glides : ℕ → Move → List Need
+  glides x (to n o) = cond (eqb n (next s x)) (cond (eqb n s) (stays o)
+      (cond (has n outgoing) (cond (has (endOf r) (reach n)) (comes n r o) []) (impossible ∷ []))) (impossible ∷ [])
+
+  -- it takes the word x from the head of its run's rest
+  abbrev pub takesRest : Run → ℕ → Move → List Need
+  takesRest (ran p []) x mv = []
+  takesRest (ran p (z ∷ u)) x (to n o) = cond (eqb s p && eqb x z) (comes n (run c n u) o) []
+
+  abbrev pub takes : ℕ → Move → List Need
+  takes x mv = cond (mute x) (goes (not (eqb x blo)) mv) (cond (quiet c s x) (glides x mv) (takesRest r x mv))
+
+-- both queues are empty, and the end makes a move
+abbrev pub afresh : Bool → Half → Move → List Need
+afresh c (half t q d) (to n o) = room (half n (ran n []) false) (joinAll (not c) (half t (ran t []) false) o) ∷ []
+
+abbrev pub nothingComes : Half → Bool
+nothingComes (half s (ran p []) b) = eqb s p && not b
+nothingComes (half s (ran p (x ∷ u)) b) = false
+
+abbrev pub byWords : Table → Bool → ℕ → Run → Bool → Half → List Need
+byWords m c s r b y = over (λ x. over (takes c s r b y x) (m c s x)) words
+
+abbrev pub byHost : Table → Bool → ℕ → Run → Bool → Half → List Need
+byHost m c s r b y = over (goes c s r b y true) (m c s (causeOf anyTime))
+
+abbrev pub byLoss : Table → Bool → ℕ → Half → List Need
+byLoss m c s y = over (afresh c y) (m c s (causeOf losingAll))
+
+abbrev pub bySilence : Table → Bool → ℕ → Half → Half → List Need
+bySilence m c s h y = cond (nothingComes h && nothingComes y) (over (afresh c y) (m c s (causeOf inSilence))) []
+
+-- whatever happens at an end
+unfoldable pub follows : Table → Bool → Half → Half → List Need
+follows m c (half s r b) y = byWords m c s r b y ++ (byHost m c s r b y ++ (byLoss m c s y ++ bySilence m c s (half s r b) y))
+
+-- what a room must fulfil by itself
+
+-- with nothing on its way and neither end in 5 or 12, the same stage
+abbrev pub agrees : Half → Half → Bool
+agrees (half s r b) (half t q d) = not (nothingComes (half s r b) && nothingComes (half t q d)) || (eqb s 5 || eqb s 12 || (eqb t 5 || eqb t 12) || (sameStage s t || sameStage t s))
+
+-- what arrives next is no signal that is never heard
+abbrev pub hears : Half → Bool
+hears (half s (ran p []) b) = true
+hears (half s (ran p (x ∷ u)) b) = not (eqb s p && unheard s (said x))
+
+abbrev pub sound : Room → Bool
+sound r = agrees (r .0) (r .1) && (hears (r .0) && hears (r .1))
+
+-- a list of rooms; what a `let` binds and the cases of an `elim` are computed only where they are read
+
+abbrev pub sameRoom : Room → Room → Bool
+sameRoom r q = sameHalf (r .0) (q .0) && sameHalf (r .1) (q .1)
+
+abbrev pub listed : List Room → Room → Bool
+listed [] q = false
+listed (r ∷ l) q = let rest = listed l q in sameRoom r q || rest
+
+abbrev pub inRole : Bool → Half → Half → Room
+inRole true me you = (me, you)
+inRole false me you = (you, me)
+
+abbrev pub meets : List Room → Bool → Need → Bool
+meets l c (room me you) = listed l (inRole c me you)
+meets l c impossible = false
+
+-- most happenings leave the ends in the room where they are: that one is looked at first
+unfoldable pub closedAt : Table → List Room → Room → Bool
+unfolding follows
+closedAt m l r = sound r && (allIn (meets (r ∷ l) true) (follows m true (r .0) (r .1)) && allIn (meets (r ∷ l) false) (follows m false (r .1) (r .0)))
+
+abbrev pub closed : Table → List Room → Bool
+closed m l = allIn (closedAt m l) l
+
+-- both ends idle, nothing on its way
+abbrev pub firstRoom : Room
+firstRoom = (half 0 (ran 0 []) false, half 0 (ran 0 []) false)

@@ -1,0 +1,303 @@
+-- What the proof sees of a queue: the words of its signals, without their particulars. An end takes some words quietly; a run is the state
+-- after those at the head of the queue, and the words that stand behind them.
+-- Assumes nothing.
+use mathlib.Core.Bool.{Bool, true, false, cond, not, _&&_, _||_}
+use mathlib.Core.List.{List, [], _∷_, _++_, append-assoc, append-nil}
+use mathlib.Core.Path.{_≡_, refl, ap, sym, _∙_, subst}
+use Prim.Native.Nat.{ℕ, zero, suc}
+use lib.Dec.{T, eqb, leb, eqb→eq}
+use Rattle.circuit.specs.declared.Signal.{Signal}
+use Rattle.circuit.specs.declared.Signal.the-variants.{Iam, Acm, Anc, Ann, Cbk, Clf, Ran, Rlg, Blo, Bla, Ubl, Uba, Rsc, Fail}
+use Rattle.circuit.specs.Every.{left, right, atBool}
+
+-- The words. ANC and ANN are one, and so are the failures. The four that change no call come last, and state s of an outgoing call goes on by
+-- word s: 1 by ACM, 2 by an answer, 3 by CBK, 4 by RAN.
+abbrev pub iam : ℕ
+iam = 0
+
+abbrev pub fail : ℕ
+fail = 5
+
+abbrev pub clf : ℕ
+clf = 6
+
+abbrev pub rlg : ℕ
+rlg = 7
+
+abbrev pub rsc : ℕ
+rsc = 8
+
+abbrev pub blo : ℕ
+blo = 9
+
+abbrev pub ubl : ℕ
+ubl = 10
+
+abbrev pub word : Signal → ℕ
+word Iam = iam
+word (Acm octet) = 1
+word Anc = 2
+word Ann = 2
+word Cbk = 3
+word Ran = 4
+word (Fail f) = fail
+word Clf = clf
+word Rlg = rlg
+word Rsc = rsc
+word Blo = blo
+word Ubl = ubl
+word Bla = 11
+word Uba = 12
+
+abbrev pub words : List ℕ
+words = 0 ∷ 1 ∷ 2 ∷ 3 ∷ 4 ∷ 5 ∷ 6 ∷ 7 ∷ 8 ∷ 9 ∷ 10 ∷ 11 ∷ 12 ∷ []
+
+abbrev pub heard : List Signal → List ℕ
+heard [] = []
+heard (x ∷ w) = word x ∷ heard w
+
+pub heard-more : (w o : List Signal) → heard (w ++ o) ≡ heard w ++ heard o
+heard-more [] o = refl
+heard-more (x ∷ w) o = ap (λ (u : List ℕ). word x ∷ u) (heard-more w o)
+
+-- tests over lists
+
+abbrev pub allIn : {A : Type 0} → (A → Bool) → List A → Bool
+allIn f [] = true
+allIn f (x ∷ l) = f x && allIn f l
+
+abbrev pub has : ℕ → List ℕ → Bool
+has x [] = false
+has x (y ∷ l) = eqb x y || has x l
+
+pub both : (a b : Bool) → T a → T b → T (a && b)
+both true b s t = t
+both false b s t = absurd s
+
+pub is-true : (a : Bool) → T a → a ≡ true
+is-true true t = refl
+is-true false t = absurd t
+
+pub at-has : (f : ℕ → Bool) (l : List ℕ) (x : ℕ) → T (has x l) → T (allIn f l) → T (f x)
+at-has f [] x h t = absurd h
+at-has f (y ∷ l) x h t = by (eqb x y) (eqb→eq x y) h (λ g. at-has f l x g (right (f y) (allIn f l) t))
+  where
+    by : (b : Bool) → (T b → x ≡ y) → T (b || has x l) → (T (has x l) → T (f x)) → T (f x)
+    by true e g k = rw (e tt) (left (f y) (allIn f l) t)
+    by false e g k = k g
+
+abbrev pub sameList : List ℕ → List ℕ → Bool
+sameList [] [] = true
+sameList [] (y ∷ v) = false
+sameList (x ∷ u) [] = false
+sameList (x ∷ u) (y ∷ v) = eqb x y && sameList u v
+
+pub same-list : (u v : List ℕ) → T (sameList u v) → u ≡ v
+same-list [] [] t = refl
+same-list [] (y ∷ v) t = absurd t
+same-list (x ∷ u) [] t = absurd t
+same-list (x ∷ u) (y ∷ v) t =
+    let e : x ≡ y = eqb→eq x y (left (eqb x y) (sameList u v) t) in
+    let d : u ≡ v = same-list u v (right (eqb x y) (sameList u v) t) in
+    cc
+
+-- The block signals and their answers may stand anywhere between the others: they are left out of a run.
+abbrev pub mute : ℕ → Bool
+mute x = leb blo x
+
+abbrev pub kept : List ℕ → List ℕ
+kept [] = []
+kept (x ∷ w) = cond (mute x) (kept w) (x ∷ kept w)
+
+-- but a BLO ends a call that is seized: whether one is on its way
+abbrev pub bloIn : List ℕ → Bool
+bloIn [] = false
+bloIn (x ∷ w) = eqb x blo || bloIn w
+
+-- What an end in state s takes without an answer, be it talk of a call that it made, or what it ignores while it waits. This is the one choice
+-- that the proof makes by hand; c: the end controls the circuit.
+abbrev pub quietIn : (c : Bool) → ℕ → List ℕ
+quietIn c s =
+    cond (eqb s 1) (1 ∷ cond c (iam ∷ clf ∷ []) [])
+    (cond (leb 2 s && leb s 4) (s ∷ [])
+    (cond (eqb s 5) (1 ∷ 2 ∷ 3 ∷ 4 ∷ fail ∷ rsc ∷ cond c (iam ∷ clf ∷ []) [])
+    (cond (eqb s 12) (iam ∷ 1 ∷ 2 ∷ 3 ∷ 4 ∷ fail ∷ []) [])))
+
+abbrev pub quiet : (c : Bool) → ℕ → ℕ → Bool
+quiet c s x = has x (quietIn c s)
+
+-- the state after a quiet word: an outgoing call goes 1, 2, 3, 4, 3, .., any other end stays
+abbrev pub next : ℕ → ℕ → ℕ
+next s x = cond (eqb s x && leb s 4) (cond (eqb s 4) 3 (suc s)) s
+
+pub data Run : Type 0 where
+  ran : ℕ → List ℕ → Run
+
+abbrev pub run : (c : Bool) → ℕ → List ℕ → Run
+run c s [] = ran s []
+run c s (x ∷ w) = cond (quiet c s x) (run c (next s x) w) (ran s (x ∷ w))
+
+abbrev pub restOf : Run → List ℕ
+restOf (ran p u) = u
+
+abbrev pub endOf : Run → ℕ
+endOf (ran p u) = p
+
+-- an end: its state, the run of its queue, and, if it is seized, whether a BLO is on its way to it
+pub data Half : Type 0 where
+  half : ℕ → Run → Bool → Half
+
+abbrev pub view : (c : Bool) → ℕ → List ℕ → Half
+view c s w = half s (run c s (kept w)) (bloIn w && eqb s 1)
+
+-- halves compared
+
+abbrev pub sameRun : Run → Run → Bool
+sameRun (ran p u) (ran q v) = eqb p q && sameList u v
+
+abbrev pub sameBool : Bool → Bool → Bool
+sameBool true b = b
+sameBool false b = not b
+
+abbrev pub sameHalf : Half → Half → Bool
+sameHalf (half s r b) (half t q d) = eqb s t && (sameRun r q && sameBool b d)
+
+same-run : (r q : Run) → T (sameRun r q) → r ≡ q
+same-run (ran p u) (ran q v) t =
+    let e : p ≡ q = eqb→eq p q (left (eqb p q) (sameList u v) t) in
+    let d : u ≡ v = same-list u v (right (eqb p q) (sameList u v) t) in
+    cc
+
+pub same-bool : (a b : Bool) → T (sameBool a b) → a ≡ b
+same-bool true true t = refl
+same-bool true false t = absurd t
+same-bool false true t = absurd t
+same-bool false false t = refl
+
+pub same-half : (h k : Half) → T (sameHalf h k) → h ≡ k
+same-half (half s r b) (half t q d) h =
+    let two : T (sameRun r q && sameBool b d) = right (eqb s t) _ h in
+    let e : s ≡ t = eqb→eq s t (left (eqb s t) _ h) in
+    let f : r ≡ q = same-run r q (left (sameRun r q) _ two) in
+    let g : b ≡ d = same-bool b d (right (sameRun r q) _ two) in
+    cc
+
+-- a word joins the queue
+
+abbrev pub runMore : (c : Bool) → Run → ℕ → Run
+runMore c (ran p []) x = run c p (x ∷ [])
+runMore c (ran p (y ∷ u)) x = ran p (y ∷ (u ++ (x ∷ [])))
+
+abbrev pub join : (c : Bool) → Half → ℕ → Half
+join c (half s r b) x = half s (cond (mute x) r (runMore c r x)) (b || eqb x blo && eqb s 1)
+
+abbrev pub joinAll : (c : Bool) → Half → List ℕ → Half
+joinAll c h [] = h
+joinAll c h (x ∷ o) = joinAll c (join c h x) o
+
+run-more : (c : Bool) (s : ℕ) (u : List ℕ) (k : ℕ) → runMore c (run c s u) k ≡ run c s (u ++ (k ∷ []))
+run-more c s [] k = refl
+run-more c s (x ∷ u) k = by (quiet c s x) (run-more c (next s x) u k)
+  where
+    by : (q : Bool) → runMore c (run c (next s x) u) k ≡ run c (next s x) (u ++ (k ∷ [])) → runMore c (cond q (run c (next s x) u) (ran s (x ∷ u))) k ≡ cond q (run c (next s x) (u ++ (k ∷ []))) (ran s (x ∷ (u ++ (k ∷ []))))
+    by true ih = ih
+    by false ih = refl
+
+kept-more : (w : List ℕ) (x : ℕ) → kept (w ++ (x ∷ [])) ≡ cond (mute x) (kept w) (kept w ++ (x ∷ []))
+kept-more [] x = refl
+kept-more (y ∷ w) x = rw (kept-more w x) (by (mute y) (mute x))
+  where
+    by : (a b : Bool) → cond a (cond b (kept w) (kept w ++ (x ∷ []))) (y ∷ cond b (kept w) (kept w ++ (x ∷ []))) ≡ cond b (cond a (kept w) (y ∷ kept w)) (cond a (kept w) (y ∷ kept w) ++ (x ∷ []))
+    by true true = refl
+    by true false = refl
+    by false true = refl
+    by false false = refl
+
+or-false : (a : Bool) → (a || false) ≡ a
+or-false true = refl
+or-false false = refl
+
+blo-more : (w : List ℕ) (x : ℕ) → bloIn (w ++ (x ∷ [])) ≡ (bloIn w || eqb x blo)
+blo-more [] x = or-false (eqb x blo)
+blo-more (y ∷ w) x = rw (blo-more w x) (by (eqb y blo))
+  where
+    by : (a : Bool) → (a || (bloIn w || eqb x blo)) ≡ ((a || bloIn w) || eqb x blo)
+    by true = refl
+    by false = refl
+
+share : (a b d : Bool) → (a && d || b && d) ≡ ((a || b) && d)
+share true true true = refl
+share true true false = refl
+share true false true = refl
+share true false false = refl
+share false b d = refl
+
+-- the half after a word is the view of the longer queue
+joined-one : (c : Bool) (s : ℕ) (w : List ℕ) (x : ℕ) → join c (view c s w) x ≡ view c s (w ++ (x ∷ []))
+joined-one c s w x =
+    let e : cond (mute x) (run c s (kept w)) (runMore c (run c s (kept w)) x) ≡ run c s (kept (w ++ (x ∷ []))) = rw (kept-more w x) (by (mute x)) in
+    let f : (bloIn w && eqb s 1 || eqb x blo && eqb s 1) ≡ (bloIn (w ++ (x ∷ [])) && eqb s 1) = rw (blo-more w x) (share (bloIn w) (eqb x blo) (eqb s 1)) in
+    cc
+  where
+    by : (m : Bool) → cond m (run c s (kept w)) (runMore c (run c s (kept w)) x) ≡ run c s (cond m (kept w) (kept w ++ (x ∷ [])))
+    by true = refl
+    by false = run-more c s (kept w) x
+
+pub joined : (c : Bool) (s : ℕ) (w o : List ℕ) → joinAll c (view c s w) o ≡ view c s (w ++ o)
+joined c s w [] = ap (view c s) (sym (append-nil w))
+joined c s w (x ∷ o) = ap (λ (h : Half). joinAll c h o) (joined-one c s w x) ∙ (joined c s (w ++ (x ∷ [])) o ∙ ap (view c s) (append-assoc w (x ∷ []) o))
+
+-- a change of state
+
+abbrev pub outgoing : List ℕ
+outgoing = 1 ∷ 2 ∷ 3 ∷ 4 ∷ []
+
+-- the states that quiet words lead through
+abbrev pub family : ℕ → List ℕ
+family s = cond (has s outgoing) outgoing (s ∷ [])
+
+-- t takes quietly, and stays, whatever these states take quietly
+abbrev pub absorbs : (c : Bool) → ℕ → List ℕ → Bool
+absorbs c t l = allIn (λ s. allIn (λ x. has (next s x) l && (quiet c t x && eqb (next t x) t)) (quietIn c s)) l
+
+-- then the run from t starts behind the run from s
+pub run-absorbs : (c : Bool) (t : ℕ) (l : List ℕ) → T (absorbs c t l) → (s : ℕ) → T (has s l) → (u : List ℕ) → run c t u ≡ run c t (restOf (run c s u))
+run-absorbs c t l a s m [] = refl
+run-absorbs c t l a s m (x ∷ u) = by (quiet c s x) (λ q. at-has (λ y. has (next s y) l && (quiet c t y && eqb (next t y) t)) (quietIn c s) x q all) (λ n. run-absorbs c t l a (next s x) n u)
+  where
+    all : T (allIn (λ y. has (next s y) l && (quiet c t y && eqb (next t y) t)) (quietIn c s))
+    all = at-has (λ r. allIn (λ y. has (next r y) l && (quiet c t y && eqb (next t y) t)) (quietIn c r)) l s m a
+
+    by : (q : Bool) → (T q → T (has (next s x) l && (quiet c t x && eqb (next t x) t))) → (T (has (next s x) l) → run c t u ≡ run c t (restOf (run c (next s x) u)))
+        → run c t (x ∷ u) ≡ run c t (restOf (cond q (run c (next s x) u) (ran s (x ∷ u))))
+    by false e ih = refl
+    by true e ih =
+        let two : T (quiet c t x && eqb (next t x) t) = right (has (next s x) l) _ (e tt) in
+        let qt : quiet c t x ≡ true = is-true (quiet c t x) (left (quiet c t x) _ two) in
+        let st : next t x ≡ t = eqb→eq (next t x) t (right (quiet c t x) _ two) in
+        ap (λ (q : Bool). cond q (run c (next t x) u) (ran t (x ∷ u))) qt ∙ (ap (λ (n : ℕ). run c n u) st ∙ ih (left (has (next s x) l) _ (e tt)))
+
+-- where a run from an outgoing state can end: a call goes on, and not back
+abbrev pub reach : ℕ → List ℕ
+reach s = cond (eqb s 1) outgoing (cond (eqb s 2) (2 ∷ 3 ∷ 4 ∷ []) (3 ∷ 4 ∷ []))
+
+abbrev onward : Bool → ℕ → Bool
+onward c s = has s (reach s) && allIn (λ x. has (next s x) outgoing && allIn (λ p. has p (reach s)) (reach (next s x))) (quietIn c s)
+
+pub run-ends : (c : Bool) (s : ℕ) → T (has s outgoing) → (u : List ℕ) → T (has (endOf (run c s u)) (reach s))
+run-ends c s m u = go u s m
+  where
+    test : T (allIn (onward c) outgoing)
+    test = atBool (λ c. allIn (onward c) outgoing) tt c
+
+    go : (u : List ℕ) (s : ℕ) → T (has s outgoing) → T (has (endOf (run c s u)) (reach s))
+    go [] s m = left (has s (reach s)) _ (at-has (onward c) outgoing s m test)
+    go (x ∷ u) s m = by (quiet c s x) (λ q. at-has (λ x. has (next s x) outgoing && allIn (λ p. has p (reach s)) (reach (next s x))) (quietIn c s) x q (right (has s (reach s)) _ here)) (λ n. go u (next s x) n)
+      where
+        here : T (onward c s)
+        here = at-has (onward c) outgoing s m test
+
+        by : (q : Bool) → (T q → T (has (next s x) outgoing && allIn (λ p. has p (reach s)) (reach (next s x)))) → (T (has (next s x) outgoing) → T (has (endOf (run c (next s x) u)) (reach (next s x))))
+            → T (has (endOf (cond q (run c (next s x) u) (ran s (x ∷ u)))) (reach s))
+        by false e ih = left (has s (reach s)) _ here
+        by true e ih = at-has (λ p. has p (reach s)) (reach (next s x)) (endOf (run c (next s x) u)) (ih (left (has (next s x) outgoing) _ (e tt))) (right (has (next s x) outgoing) _ (e tt))
