@@ -1,0 +1,187 @@
+-- Each thing that happens to two tables is one that happens to two ends of the circuit, or leaves them as they are: so the tables agree.
+-- Assumes nothing.
+use mathlib.Core.Path.{_≡_, refl, sym, ap, _∙_, subst}
+use mathlib.Core.Bool.{Bool, true, false, not, cond, _&&_, _||_, true≢false, false≢true}
+use mathlib.Core.List.{List, [], _∷_, _++_}
+use Prim.Native.Nat.{ℕ, _<_}
+use lib.Dec.{T, eqb, ltb, eqb-refl}
+use lib.ListN.{length, length-replicate}
+use borrow.Author.Tests.{eqb-true, eqb-false, eq-eqb}
+use Rattle.circuit.specs.declared.Record.{Record}
+use Rattle.circuit.specs.declared.Signal.{Signal}
+use Rattle.circuit.specs.declared.Signal.the-variants.{Iam}
+use Rattle.circuit.specs.declared.Event.the-variants.{Arrives}
+use Rattle.circuit.specs.declared.Sends.{Sends}
+use Rattle.circuit.specs.declared.Outcome.{Outcome}
+use Rattle.circuit.specs.Groups.{badCode, badGroup, controls}
+use Rattle.codes.specs.declared.Found.{Found}
+use Rattle.codes.specs.declared.Found.the-variants.{Is}
+use Rattle.step.specs.Step.{stepFound}
+use Rattle.group.specs.Layout.{recordsIn, stateAt, flagsAt, recordOf, recordAt, idle, idleState, idleFlags}
+use Rattle.group.specs.Table.{Step, stepIn}
+use Rattle.group.specs.Laws.{Carries, Same, isStep, others, keepsLength}
+use Rattle.group.specs.Valid as grouped
+use Rattle.group.specs.Valid.{ValidAt, ValidTable, staysValid, reachedValid}
+use Rattle.ends.specs.Ends as ends
+use Rattle.ends.proofs.Claim.{twoEndsAgree}
+use Rattle.exchanges.specs.Tables.{Exchange, endAt, Both, acted, arrival, given, elsewhere, Happening, Happening.arrives, Happening.host, Happening.beside, turn, Reached, Reached.start, Reached.atFirst, Reached.atSecond, Claim}
+
+-- a table is that of a group which has the circuit, and its records are valid
+record Good (own far cic : ℕ) (table : List ℕ) : Type 0 where
+  group : badGroup own far (recordsIn (length table)) ≡ false
+  has : cic < recordsIn (length table)
+  valid : ValidTable table
+
+abbrev endsAt : ℕ → Both → ends.Pair
+endsAt cic p = (endAt cic (p .0), endAt cic (p .1))
+
+abbrev pair : Record → Sends → (rest : List Signal) → (other : ends.End) → ends.Pair
+pair r s rest other = (record { holds = r; coming = rest }, record { holds = other .holds; coming = other .coming ++ ends.inOrder s })
+
+abbrev paired : ℕ → Record → Exchange → Exchange → ends.Pair
+paired cic r me other = (record { holds = r; coming = me .coming }, endAt cic other)
+
+module _ (own far cic : ℕ) where
+  -- a step keeps a table good
+  stepped : (table : List ℕ) (i : ℕ) (e : Found) → Good own far cic table → Good own far cic (stepIn own far table i e .table)
+  stepped table i e g = record {
+    group = rw (keepsLength own far table i e) (g .group);
+    has = rw (keepsLength own far table i e) (g .has);
+    valid = staysValid own far table i e (g .valid);
+  }
+
+  -- the step on the table is the step of the circuit's end
+  acts : (table : List ℕ) (e : Found) (rest : List Signal) (other : Exchange) → Good own far cic table → ends.acted (ends.does (controls own far cic) (recordAt table cic) e) rest (endAt cic other) ≡ endsAt cic (acted (stepIn own far table cic e) rest other)
+  unfolding ends.does
+  acts table e rest other g =
+      ap (λ (r : Record). pair r (o .sends) rest (endAt cic other)) (sym (k .stored))
+      ∙ ap (λ (s : Sends). pair (recordAt (stepIn own far table cic e .table) cic) s rest (endAt cic other)) (sym (k .sends))
+    where
+      o : Outcome
+      o = stepFound (controls own far cic) (recordAt table cic) e
+
+      k : Carries cic o (stepIn own far table cic e)
+      k = isStep own far table cic e (g .group) (g .has) (g .valid cic (g .has) .flags)
+
+  arrived : (table : List ℕ) (queue : List Signal) (other : Exchange) → Good own far cic table → ends.arrival (controls own far cic) (recordAt table cic) queue (endAt cic other) ≡ endsAt cic (arrival own far cic table queue other)
+  arrived table [] other g = refl
+  arrived table (s ∷ rest) other g = acts table (Is (Arrives s)) rest other g
+
+  hosted : (w : ends.When) (e : Found) (me other : Exchange) → Good own far cic (me .table) → ends.given w (controls own far cic) e (endAt cic me) (endAt cic other) ≡ endsAt cic (given own far cic w e me other)
+  hosted ends.When.anyTime e me other g = acts (me .table) e (me .coming) other g
+  hosted ends.When.inSilence e me other g = go (ends.empty (me .coming) && ends.empty (other .coming))
+    where
+      go : (b : Bool) → cond b (ends.acted (ends.does (controls own far cic) (recordAt (me .table) cic) e) (me .coming) (endAt cic other)) (endAt cic me, endAt cic other) ≡ endsAt cic (cond b (acted (stepIn own far (me .table) cic e) (me .coming) other) (me, other))
+      go true = acts (me .table) e (me .coming) other g
+      go false = refl
+  hosted ends.When.losingAll e me other g = acts (me .table) e [] (record { table = other .table; coming = [] }) g
+  hosted ends.When.never e me other g = refl
+
+  -- an event on another circuit leaves both ends of this one as they are
+  apart : (i : ℕ) (e : Found) (me other : Exchange) → (endAt cic me, endAt cic other) ≡ endsAt cic (elsewhere own far cic i e me other)
+  apart i e me other = go (eqb i cic) refl
+    where
+      go : (b : Bool) → eqb i cic ≡ b → (endAt cic me, endAt cic other) ≡ endsAt cic (cond b (me, other) (record { table = stepIn own far (me .table) i e .table; coming = me .coming }, other))
+      go true q = refl
+      go false q =
+          let same : Same (me .table) (stepIn own far (me .table) i e .table) cic = others own far (me .table) i e cic (λ z. eqb-false i cic q (sym z)) in
+          ap (λ (s : ℕ). paired cic (recordOf s (flagsAt (me .table) cic)) me other) (sym (same .state))
+          ∙ ap (λ (f : ℕ). paired cic (recordOf (stateAt (stepIn own far (me .table) i e .table) cic) f) me other) (sym (same .flags))
+
+  -- what happens to the tables, as something that happens to the two ends; the host can give no signal, so that one is nothing
+  abbrev seen : Happening → ends.Happening
+  seen arrives = ends.Happening.arrives
+  seen (host e) = ends.Happening.host e
+  seen (beside i e) = ends.Happening.host (Is (Arrives Iam))
+
+  turned : (h : Happening) (me other : Exchange) → Good own far cic (me .table) → ends.turn (controls own far cic) (seen h) (endAt cic me) (endAt cic other) ≡ endsAt cic (turn own far cic h me other)
+  turned arrives me other g = arrived (me .table) (me .coming) other g
+  turned (host e) me other g = hosted (ends.whenGiven e) e me other g
+  turned (beside i e) me other g = apart i e me other
+
+  -- the exchange where something happens keeps its table good, and the other keeps its table
+  record Kept (p : Both) (other : Exchange) : Type 0 where
+    mine : Good own far cic (p .0 .table)
+    theirs : p .1 .table ≡ other .table
+
+  keepsArrival : (table : List ℕ) (queue : List Signal) (other : Exchange) → Good own far cic table → Kept (arrival own far cic table queue other) other
+  keepsArrival table [] other g = record { mine = g; theirs = refl }
+  keepsArrival table (s ∷ rest) other g = record { mine = stepped table cic (Is (Arrives s)) g; theirs = refl }
+
+  keepsGiven : (w : ends.When) (e : Found) (me other : Exchange) → Good own far cic (me .table) → Kept (given own far cic w e me other) other
+  keepsGiven ends.When.anyTime e me other g = record { mine = stepped (me .table) cic e g; theirs = refl }
+  keepsGiven ends.When.inSilence e me other g = go (ends.empty (me .coming) && ends.empty (other .coming))
+    where
+      go : (b : Bool) → Kept (cond b (acted (stepIn own far (me .table) cic e) (me .coming) other) (me, other)) other
+      go true = record { mine = stepped (me .table) cic e g; theirs = refl }
+      go false = record { mine = g; theirs = refl }
+  keepsGiven ends.When.losingAll e me other g = record { mine = stepped (me .table) cic e g; theirs = refl }
+  keepsGiven ends.When.never e me other g = record { mine = g; theirs = refl }
+
+  keeps : (h : Happening) (me other : Exchange) → Good own far cic (me .table) → Kept (turn own far cic h me other) other
+  keeps arrives me other g = keepsArrival (me .table) (me .coming) other g
+  keeps (host e) me other g = keepsGiven (ends.whenGiven e) e me other g
+  keeps (beside i e) me other g = go (eqb i cic)
+    where
+      go : (b : Bool) → Kept (cond b (me, other) (record { table = stepIn own far (me .table) i e .table; coming = me .coming }, other)) other
+      go true = record { mine = g; theirs = refl }
+      go false = record { mine = stepped (me .table) i e g; theirs = refl }
+
+idleLength : (octets : ℕ) → length (idle octets) ≡ octets
+idleLength octets = length-replicate octets 0
+
+idleGood : (own far cic octets : ℕ) → badGroup own far (recordsIn octets) ≡ false → cic < recordsIn octets → Good own far cic (idle octets)
+idleGood own far cic octets good h = record { group = rw (idleLength octets) good; has = rw (idleLength octets) h; valid = reachedValid {own = own} {far = far} (grouped.Reached.start octets) }
+
+idleEnd : (cic octets : ℕ) → endAt cic (record { table = idle octets; coming = [] }) ≡ ends.idle
+unfolding recordOf
+idleEnd cic octets = rw (idleState octets cic, idleFlags octets cic)
+
+-- both tables are good, and the two ends of the circuit are a pair that is reached
+record Holds (own far cic : ℕ) (x y : Exchange) : Type 0 where
+  first : Good own far cic (x .table)
+  second : Good far own cic (y .table)
+  reached : ends.Reached (controls own far cic) (controls far own cic) (endAt cic x) (endAt cic y)
+
+module _ (own far cic m n : ℕ) (good : badGroup own far (recordsIn m) ≡ false) (good' : badGroup far own (recordsIn n) ≡ false) (h : cic < recordsIn m) (h' : cic < recordsIn n) where
+  holds : {x y : Exchange} → Reached own far cic m n x y → Holds own far cic x y
+  holds start = record {
+    first = idleGood own far cic m good h;
+    second = idleGood far own cic n good' h';
+    reached = rw (idleEnd cic m, idleEnd cic n) ends.Reached.start;
+  }
+  holds (atFirst {x} {y} r e) = next (holds r)
+    where
+      next : Holds own far cic x y → Holds own far cic (turn own far cic e x y .0) (turn own far cic e x y .1)
+      next i =
+          let k : Kept own far cic (turn own far cic e x y) y = keeps own far cic e x y (i .first) in
+          record {
+            first = k .mine;
+            second = rw (k .theirs) (i .second);
+            reached = subst (λ (p : ends.Pair). ends.Reached (controls own far cic) (controls far own cic) (p .0) (p .1)) (turned own far cic e x y (i .first)) (ends.Reached.atFirst (i .reached) (seen own far cic e));
+          }
+  holds (atSecond {x} {y} r e) = next (holds r)
+    where
+      next : Holds own far cic x y → Holds own far cic (turn far own cic e y x .1) (turn far own cic e y x .0)
+      next i =
+          let k : Kept far own cic (turn far own cic e y x) x = keeps far own cic e y x (i .second) in
+          record {
+            first = rw (k .theirs) (i .first);
+            second = k .mine;
+            reached = subst (λ (p : ends.Pair). ends.Reached (controls own far cic) (controls far own cic) (p .1) (p .0)) (turned far own cic e y x (i .second)) (ends.Reached.atSecond (i .reached) (seen far own cic e));
+          }
+
+-- two codes of a group are different
+different : (own far records : ℕ) → badGroup own far records ≡ false → own ≡ far → ⊥
+different own far records good same = go (badCode own) (badCode far) (eqb own far) (eq-eqb own far same) (eqb records 0 || ltb 4096 records) good
+  where
+    go : (a b d : Bool) → d ≡ true → (e : Bool) → (a || b || d || e) ≡ false → ⊥
+    go true b d t e f = true≢false f
+    go false true d t e f = true≢false f
+    go false false true t e f = true≢false f
+    go false false false t e f = false≢true t
+
+pub tablesAgree : Claim
+unfolding Claim ends.Claim
+tablesAgree own far cic m n good good' h h' x y r ex ey wx wy =
+    twoEndsAgree own far cic (different own far (recordsIn m) good) (endAt cic x) (endAt cic y) (holds own far cic m n good good' h h' r .reached) ex ey wx wy
