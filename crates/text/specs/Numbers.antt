@@ -66,3 +66,6 @@ decimal-length (suc k) n h =
     byTest (ltb n 10)
     (λ e. small-length (suc k) n (ltb-true _ _ e))
     (λ e. large-length (suc k) n (ltb-false _ _ e) (decimal-length k (n / 10) (omega (arith, pow-suc 10 (suc k)))))
+
+pub decimal-64 : (n : ℕ) → n < 2 ^ 64 → length (decimal n) ≤ 20
+decimal-64 n h = decimal-length 19 n (omega arith)

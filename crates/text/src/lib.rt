@@ -124,6 +124,7 @@ fn whole_line(room: &mut [u8], l: Line) -> usize
 fn word_and_number(room: &mut [u8], text: &[u8], n: u64) -> usize
     requires { ⌜ length (now text) + 21 ≤ length (now room) ⌝ }
     ensures { λ r. ⌜ Wrote (now (room .entry)) 0 (now (text .entry) ++ (decimal n ++ (10 ∷ []))) r (now (room .exit)) ⌝ }
+    ensures { λ r. do ⌜ r ≤ length (now (text .entry)) + 21 ⌝ }
 {
     let next = word(room, 0, text);
     let next = digits(room, next, n);

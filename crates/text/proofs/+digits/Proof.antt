@@ -1,3 +1,5 @@
+-- `text::+digits` meets its contract.
+-- Assumes nothing.
 use Prim.Native.Nat.{ℕ, _<_}
 use native.Mathlib.Omega.{arith}
 use borrow.Author.Needs.{needs}
@@ -21,7 +23,6 @@ digits-at t = and 1 digits-kinds.ps (is 1 digits-kinds.ps μ-digits t) digits.Pr
 abbrev digits-below : ℕ → In 1 digits-kinds.ps
 digits-below t = and 1 digits-kinds.ps (falls 1 digits-kinds.ps _<_ μ-digits t) digits.Pre
 
--- src/lib.rt:40:35
 digits-cast-put : (t : ℕ) → digits-lts.Need-cast-put (
   put-reads.Asked,
   put-reads.Learnt,
@@ -30,7 +31,6 @@ digits-cast-put : (t : ℕ) → digits-lts.Need-cast-put (
 ) (digits-at t) digits.Post
 digits-cast-put t c = search needs
 
--- src/lib.rt:40:30
 digits-add-put : (t : ℕ) → digits-lts.Need-add-put (
   put-reads.Asked,
   put-reads.Learnt,
@@ -39,7 +39,6 @@ digits-add-put : (t : ℕ) → digits-lts.Need-add-put (
 ) (digits-at t) digits.Post
 digits-add-put t c = search needs
 
--- src/lib.rt:40:9
 digits-put-requires : (t : ℕ) → digits-lts.Need-put-requires (
   put-reads.Asked,
   put-reads.Learnt,
@@ -48,7 +47,6 @@ digits-put-requires : (t : ℕ) → digits-lts.Need-put-requires (
 ) (digits-at t) digits.Post
 digits-put-requires t c κs = let d = c .before .before .before in omega (arith, d .pre .1, decimal-small-length (d .args .n) (c .before .if1 .taken))
 
--- src/lib.rt:40:9
 digits-same-length : (t : ℕ) → digits-lts.Need-same-length (
   put-reads.Asked,
   put-reads.Learnt,
@@ -57,7 +55,6 @@ digits-same-length : (t : ℕ) → digits-lts.Need-same-length (
 ) (digits-at t) digits.Post
 digits-same-length t c = search needs
 
--- src/lib.rt:40:9
 digits-returns : (t : ℕ) → digits-lts.Need-returns (
   put-reads.Asked,
   put-reads.Learnt,
@@ -66,7 +63,6 @@ digits-returns : (t : ℕ) → digits-lts.Need-returns (
 ) (digits-at t) digits.Post
 digits-returns t c = small (c .before .before .before .before .if1 .taken) (c .before .before .put .ensures)
 
--- src/lib.rt:42:9
 digits-digits-requires : (t : ℕ) → digits-lts.Need-digits-requires (
   put-reads.Asked,
   put-reads.Learnt,
@@ -75,7 +71,6 @@ digits-digits-requires : (t : ℕ) → digits-lts.Need-digits-requires (
 ) (digits-at t) digits.Post
 digits-digits-requires t c κs = let d = c .before .before .before in (omega (arith, d .pre .0), omega (arith, d .pre .1, decimal-longer (d .args .n) (c .before .if1 .left)))
 
--- src/lib.rt:43:26
 digits-cast-put-2 : (t : ℕ) → digits-lts.Need-cast-put-2 (
   put-reads.Asked,
   put-reads.Learnt,
@@ -84,7 +79,6 @@ digits-cast-put-2 : (t : ℕ) → digits-lts.Need-cast-put-2 (
 ) (digits-at t) digits.Post
 digits-cast-put-2 t c = search needs
 
--- src/lib.rt:43:21
 digits-add-put-2 : (t : ℕ) → digits-lts.Need-add-put-2 (
   put-reads.Asked,
   put-reads.Learnt,
@@ -93,7 +87,6 @@ digits-add-put-2 : (t : ℕ) → digits-lts.Need-add-put-2 (
 ) (digits-at t) digits.Post
 digits-add-put-2 t c = search needs
 
--- src/lib.rt:43:5
 digits-put-requires-2 : (t : ℕ) → digits-lts.Need-put-requires-2 (
   put-reads.Asked,
   put-reads.Learnt,
@@ -105,7 +98,6 @@ digits-put-requires-2 t c κs =
     let s = d .before .before .before .before in
     omega (arith, s .pre .1, decimal-longer (s .args .n) (d .before .before .if1 .left), d .digits .ensures .place, d .digits .kept .0)
 
--- src/lib.rt:35:1
 digits-same-length-2 : (t : ℕ) → digits-lts.Need-same-length-2 (
   put-reads.Asked,
   put-reads.Learnt,
@@ -114,7 +106,6 @@ digits-same-length-2 : (t : ℕ) → digits-lts.Need-same-length-2 (
 ) (digits-at t) digits.Post
 digits-same-length-2 t c = search needs
 
--- src/lib.rt:35:1
 digits-returns-2 : (t : ℕ) → digits-lts.Need-returns-2 (
   put-reads.Asked,
   put-reads.Learnt,

@@ -1,29 +1,25 @@
+-- `text::bad_group_line` meets its contract.
+-- Assumes nothing.
+use Rattle.text.specs.Writing.{whole, nothing}
+use native.Mathlib.Omega.{arith}
 use borrow.Author.Needs.{needs}
 use Rattle.text.proofs.bad_group_line.Statement.{statement}
 use Rattle.text.proofs.bad_group_line.Tie as tie
-use Rattle.text.proofs.bad_group_line.Reads as reads
-use Rattle.text.proofs.bad_group_line.Lts as lts
-use Rattle.text.proofs.word.Reads as word-reads
 
--- src/lib.rt:190:9
 returns : tie.Need-returns
-returns c = ?
+returns c = nothing _ _ (c .if1 .taken)
 
--- src/lib.rt:192:19
 slice-aggregate-word : tie.Need-slice-aggregate-word
 slice-aggregate-word c = search needs
 
--- src/lib.rt:192:5
 word-requires : tie.Need-word-requires
 word-requires c κs = search needs
 
--- src/lib.rt:186:1
 same-length : tie.Need-same-length
 same-length c = search needs
 
--- src/lib.rt:186:1
 returns-2 : tie.Need-returns-2
-returns-2 c = ?
+returns-2 c = let w = c .before .before .word .ensures in whole (c .before .before .before .before .before .if1 .left) (omega (arith, w .place)) w
 
 pub bad-group-line-spec : {M : Type 1} → statement M
 bad-group-line-spec =

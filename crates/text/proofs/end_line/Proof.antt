@@ -1,29 +1,27 @@
+-- `text::end_line` meets its contract.
+-- Assumes nothing.
+use Rattle.text.specs.Lines.{endLine}
+use Rattle.text.specs.Writing.{whole, nothing}
+use native.Mathlib.Omega.{arith}
 use borrow.Author.Needs.{needs}
 use Rattle.text.proofs.end_line.Statement.{statement}
 use Rattle.text.proofs.end_line.Tie as tie
-use Rattle.text.proofs.end_line.Reads as reads
-use Rattle.text.proofs.end_line.Lts as lts
-use Rattle.text.proofs.word_and_number.Reads as word-and-number-reads
 
--- src/lib.rt:172:9
 returns : tie.Need-returns
-returns c = ?
+returns c = nothing _ _ (c .if1 .taken)
 
--- src/lib.rt:174:27
 slice-aggregate-word-and-number : tie.Need-slice-aggregate-word-and-number
 slice-aggregate-word-and-number c = search needs
 
--- src/lib.rt:174:5
 word-and-number-requires : tie.Need-word-and-number-requires
 word-and-number-requires c κs = search needs
 
--- src/lib.rt:168:1
 same-length : tie.Need-same-length
 same-length c = search needs
 
--- src/lib.rt:168:1
 returns-2 : tie.Need-returns-2
-returns-2 c = ?
+unfolding endLine
+returns-2 c = let w = c .before .before .word-and-number .ensures in whole (c .before .before .before .before .before .if1 .left) (omega (arith, w .1)) (w .0)
 
 pub end-line-spec : {M : Type 1} → statement M
 end-line-spec =

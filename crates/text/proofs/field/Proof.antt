@@ -1,26 +1,32 @@
+-- `text::field` meets its contract.
+-- Assumes nothing.
+use Rattle.text.specs.Lines.{field}
+use Rattle.text.specs.Writing.{then}
+use Rattle.text.specs.Numbers.{decimal-64}
+use native.Mathlib.Omega.{arith}
 use borrow.Author.Needs.{needs}
 use Rattle.text.proofs.field.Statement.{statement}
 use Rattle.text.proofs.field.Tie as tie
-use Rattle.text.proofs.field.Reads as reads
-use Rattle.text.proofs.field.Lts as lts
-use Rattle.text.proofs.digits.Reads as digits-reads
-use Rattle.text.proofs.put.Reads as put-reads
 
--- src/lib.rt:51:9
 digits-requires : tie.Need-digits-requires
-digits-requires c κs = ?
+digits-requires c κs = omega (arith, decimal-64 (c .before .before .args .n) (c .before .before .fits .n .fits))
 
--- src/lib.rt:52:5
 put-requires : tie.Need-put-requires
-put-requires c κs = ?
+put-requires c κs =
+    let s = c .before .before .before .before .before .before in
+    let d = c .before .before .before .digits in
+    omega (arith, s .pre, d .ensures .place, d .kept .0, decimal-64 (s .args .n) (s .fits .n .fits))
 
--- src/lib.rt:46:1
 same-length : tie.Need-same-length
 same-length c = search needs
 
--- src/lib.rt:46:1
 returns : tie.Need-returns
-returns c = ?
+unfolding field
+returns c =
+    let s = c .before .before .before .before .before .before .before .before .before in
+    let d = c .before .before .before .before .before .before .digits in
+    let p = c .before .before .put in
+    (then (d .ensures) (p .ensures), omega (arith, d .ensures .place, p .ensures .place, decimal-64 (s .args .n) (s .fits .n .fits)))
 
 pub field-spec : {M : Type 1} → statement M
 field-spec = tie.close (tie.spec digits-requires put-requires same-length returns)
