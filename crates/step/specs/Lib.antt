@@ -1,1 +1,6 @@
 pub mod Step
+pub mod Refusals
+pub mod Always
+pub mod Refused
+pub mod Erred
+pub mod Cases

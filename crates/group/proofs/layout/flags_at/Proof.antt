@@ -1,0 +1,22 @@
+-- `group::layout::flags_at` meets its contract.
+-- Assumes nothing.
+use Rattle.group.specs.Layout.{flagsAt}
+use borrow.Author.Needs.{needs}
+use Rattle.group.proofs.layout.flags_at.Statement.{statement}
+use Rattle.group.proofs.layout.flags_at.Tie as tie
+
+place-requires : tie.Need-place-requires
+place-requires c κs = search needs
+
+add-octet : tie.Need-add-octet
+add-octet c = search needs
+
+octet-requires : tie.Need-octet-requires
+octet-requires c κs = search needs
+
+returns : tie.Need-returns
+unfolding flagsAt
+returns c = rw (c .octet .ensures, c .before .place .ensures .0)
+
+pub flags-at-spec : {M : Type 1} → statement M
+flags-at-spec = tie.close (tie.spec place-requires add-octet octet-requires returns)
