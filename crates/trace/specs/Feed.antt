@@ -1,8 +1,8 @@
 -- A replay in parts: how far the library comes with a part of the trace and some room for text, and what it leaves.
 -- Assumes nothing.
-use mathlib.Core.Bool.{Bool, cond, _&&_}
+use mathlib.Core.Bool.{Bool, true, false, cond, _&&_}
 use mathlib.Core.List.{List, [], _++_}
-use Prim.Native.Nat.{ℕ, zero, suc, _+_, _-_}
+use Prim.Native.Nat.{ℕ, zero, suc, _+_, _-_, _*_, min}
 use lib.Dec.{eqb, leb, ltb}
 use lib.ListN.{length, drop}
 use Rattle.text.specs.Lines.{groupLine, endLine, cutLine, badGroupLine}
@@ -44,6 +44,12 @@ shareOf NoEvent r table = noShare table
 shareOf Short r table = noShare table
 shareOf End r table = noShare table
 
+abbrev pub noTurn : Turn
+noTurn = record { taken = 0; written = 0 }
+
+abbrev pub turnOf : Share → Turn
+turnOf h = record { taken = h .taken; written = length (h .text) }
+
 -- the event at the start, where one stands there whole
 unfoldable pub share : Running → List ℕ → List ℕ → ℕ → Share
 share r table s room = cond (mayGo r room) (shareOf (item s) r table) (noShare table)
@@ -76,8 +82,8 @@ abbrev pub stays : Stage → List ℕ → Part
 stays stage table = record { taken = 0; text = []; stage = stage; table = table }
 
 -- the group: once its seven octets are there and the room has those of a line
-unfoldable pub open : List ℕ → List ℕ → ℕ → Part
-open table s room =
+unfoldable pub begins : List ℕ → List ℕ → ℕ → Part
+begins table s room =
     cond (ltb (length s) (octetsOf 0)) (stays Start table)
     (cond (refusedStart s) (stays Bad table)
     (cond (ltb room lineRoom) (stays Start table)
@@ -85,13 +91,27 @@ open table s room =
 
 -- after "bad group" and "cut" nothing is read
 unfoldable pub fed : Stage → List ℕ → List ℕ → ℕ → Part
-fed Start table s room = open table s room
+fed Start table s room = begins table s room
 fed Bad table s room = stays Bad table
 fed (Runs r) table s room = run r table s room
 fed (Cut next) table s room = stays (Cut next) table
 
 abbrev pub answerOf : Part → Fed
 answerOf p = record { taken = p .taken; written = length (p .text); stage = p .stage }
+
+-- after "bad group" and "cut" nothing more of the trace is read
+abbrev pub isOver : Stage → Bool
+isOver Start = false
+isOver Bad = true
+isOver (Runs r) = false
+isOver (Cut next) = true
+
+-- the octets of the group's table, which is empty before the group is known
+abbrev pub tableOctets : Stage → ℕ
+tableOctets Start = 0
+tableOctets Bad = 0
+tableOctets (Runs r) = 2 * min (r .circuits) 4096
+tableOctets (Cut next) = 0
 
 -- the last line, where `rest` is what was not taken of the whole trace
 unfoldable pub lastLine : Stage → List ℕ → List ℕ

@@ -26,9 +26,13 @@ octet s i = getD s i 0
 abbrev pub two : List ℕ → ℕ → ℕ
 two s i = octet s i + 256 * octet s (i + 1)
 
--- what the event's record at the start says; a timer has no detail
+-- a timer has no detail
+abbrev pub detailOf : ℕ → ℕ → ℕ
+detailOf kind detail = cond (eqb kind 3) 0 detail
+
+-- what the event's record at the start says
 unfoldable pub recorded : List ℕ → Recorded
-recorded s = record { kind = octet s 0; circuit = two s 1; code = octet s 3; detail = cond (eqb (octet s 0) 3) 0 (octet s 4) }
+recorded s = record { kind = octet s 0; circuit = two s 1; code = octet s 3; detail = detailOf (octet s 0) (octet s 4) }
 
 -- what stands at the start of these octets, behind the group
 unfoldable pub item : List ℕ → Item

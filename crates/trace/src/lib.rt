@@ -6,12 +6,12 @@ use group::Answer;
 use text::Line;
 ghost use mathlib.Core.Path.{_≡_};
 ghost use mathlib.Core.List.{[]};
-ghost use Prim.Native.Nat.{_+_, _-_, _≤_, _<_};
+ghost use Prim.Native.Nat.{_+_, _-_, _^_, _≤_, _<_};
 ghost use lib.ListN.{length, drop};
 ghost use Rattle.text.specs.Writing.{Printed, inRoom, over};
-ghost use Rattle.trace.specs.Records.{octetsOf, noEvent, octet, two, recorded, item};
+ghost use Rattle.trace.specs.Records.{octetsOf, octet, two, detailOf, recorded, item};
 ghost use Rattle.trace.specs.Replay.{happens, lineOf, eventText};
-ghost use Rattle.trace.specs.Feed.{shareOf, share, answerOf, run, open, fed, lastLine};
+ghost use Rattle.trace.specs.Feed.{noTurn, turnOf, shareOf, share, answerOf, run, begins, fed, lastLine};
 
 // What an event's record says: kind 1 a signal and its heading, 2 a command, 3 a timer, whose detail is 0.
 pub struct Recorded {
@@ -79,12 +79,116 @@ fn octet(s: &[u8], at: usize) -> u8
 }
 
 fn two(s: &[u8], at: usize) -> u16
-    requires { ⌜ at ≤ length (now s) ⌝ }
+    requires { ⌜ at + 1 < 2 ^ 64 ⌝ }
     ensures { λ r. ⌜ r ≡ two (now (s .entry)) at ⌝ }
 {
     octet(s, at) as u16 + 256 * octet(s, at + 1) as u16
 }
 
-fn detail(kind: u8, octet: u8) -> u8 {
+fn detail(kind: u8, octet: u8) -> u8
+    ensures { λ r. ⌜ r ≡ detailOf kind octet ⌝ }
+{
     if kind == 3 { 0 } else { octet }
+}
+
+fn recorded_at(s: &[u8], at: usize) -> Recorded
+    requires { ⌜ at ≤ length (now s) ⌝ }
+    ensures { λ r. ⌜ r ≡ recorded (drop at (now (s .entry))) ⌝ }
+{
+    let kind = octet(s, at);
+    Recorded {
+        kind: kind,
+        circuit: two(s, at + 1),
+        code: octet(s, at + 3),
+        detail: detail(kind, octet(s, at + 4)),
+    }
+}
+
+// What stands at a place of a trace, behind the group.
+pub fn item_at(s: &[u8], at: usize) -> Item
+    ensures { λ r. ⌜ r ≡ item (drop at (now (s .entry))) ⌝ }
+{
+    if s.len() <= at {
+        return Item::End;
+    }
+    let kind = octet(s, at);
+    if circuit::either(kind == 0, 3 < kind) {
+        return Item::NoEvent;
+    }
+    if s.len() - at < octets_of(kind) {
+        return Item::Short;
+    }
+    Item::Event(recorded_at(s, at))
+}
+
+fn line_of(ordinal: u64, circuit: u16, a: Answer) -> Line
+    ensures { λ r. ⌜ r ≡ lineOf ordinal circuit a ⌝ }
+{
+    let sends = a.sends;
+    Line {
+        ordinal: ordinal,
+        circuit: circuit,
+        refusal: a.refusal,
+        state: a.state,
+        flags: a.flags,
+        ind: a.ind,
+        first: codes::first_heading(sends),
+        second: codes::second_heading(sends),
+    }
+}
+
+// An event happens in the group, and its line is written.
+fn event(r: Running, table: &mut [u8], e: Recorded, room: &mut [u8]) -> Turn
+    requires { ⌜ 132 ≤ length (now room) ⌝ }
+    ensures answers { λ t. ⌜ t ≡ turnOf (shareOf (Item.Event e) r (now (table .entry))) ⌝ }
+    ensures leaves { λ t. ⌜ now (table .exit) ≡ shareOf (Item.Event e) r (now (table .entry)) .table ⌝ }
+    ensures writes { λ t. ⌜ now (room .exit) ≡ over (shareOf (Item.Event e) r (now (table .entry)) .text) (now (room .entry)) ⌝ }
+{
+    let own = r.own;
+    let far = r.far;
+    let found = codes::event_of(e.kind as u32, e.code as u32, e.detail as u32);
+    let a = group::step(own, far, table, Cic(e.circuit as u32), found);
+    let written = text::event_line(room, line_of(r.next, e.circuit, a));
+    Turn {
+        taken: octets_of(e.kind),
+        written: written,
+    }
+}
+
+fn no_turn() -> Turn
+    ensures { λ t. ⌜ t ≡ noTurn ⌝ }
+{
+    Turn {
+        taken: 0,
+        written: 0,
+    }
+}
+
+fn one_item(i: Item, r: Running, table: &mut [u8], room: &mut [u8]) -> Turn
+    requires { ⌜ 132 ≤ length (now room) ⌝ }
+    ensures answers { λ t. ⌜ t ≡ turnOf (shareOf i r (now (table .entry))) ⌝ }
+    ensures leaves { λ t. ⌜ now (table .exit) ≡ shareOf i r (now (table .entry)) .table ⌝ }
+    ensures writes { λ t. ⌜ now (room .exit) ≡ over (shareOf i r (now (table .entry)) .text) (now (room .entry)) ⌝ }
+{
+    match i {
+        Item::Event(e) => event(r, table, e, room),
+        Item::NoEvent => no_turn(),
+        Item::Short => no_turn(),
+        Item::End => no_turn(),
+    }
+}
+
+// The event at a place of the part, where one stands there whole, the room has a line's octets and there is a further ordinal.
+fn one_event(r: Running, table: &mut [u8], part: &[u8], at: usize, room: &mut [u8]) -> Turn
+    ensures answers { λ t. ⌜ t ≡ turnOf (share r (now (table .entry)) (drop at (now (part .entry))) (length (now (room .entry)))) ⌝ }
+    ensures leaves { λ t. ⌜ now (table .exit) ≡ share r (now (table .entry)) (drop at (now (part .entry))) (length (now (room .entry))) .table ⌝ }
+    ensures writes { λ t. ⌜ now (room .exit) ≡ over (share r (now (table .entry)) (drop at (now (part .entry))) (length (now (room .entry))) .text) (now (room .entry)) ⌝ }
+{
+    if room.len() < text::LINE {
+        return no_turn();
+    }
+    if r.next == 18446744073709551615 {
+        return no_turn();
+    }
+    one_item(item_at(part, at), r, table, room)
 }
