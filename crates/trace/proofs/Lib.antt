@@ -1,2 +1,4 @@
 pub mod Items
 pub mod Turns
+pub mod Opening
+pub mod Runs

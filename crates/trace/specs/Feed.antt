@@ -76,7 +76,7 @@ runWithin (suc k) r table s room =
     (runWithin k (onward r) (share r table s room .table) (drop (share r table s room .taken) s) (room - length (share r table s room .text))))
 
 unfoldable pub run : Running → List ℕ → List ℕ → ℕ → Part
-run r table s room = runWithin (length s) r table s room
+run r table s room = runWithin (suc (length s)) r table s room
 
 abbrev pub stays : Stage → List ℕ → Part
 stays stage table = record { taken = 0; text = []; stage = stage; table = table }

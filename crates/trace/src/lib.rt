@@ -6,12 +6,12 @@ use group::Answer;
 use text::Line;
 ghost use mathlib.Core.Path.{_≡_};
 ghost use mathlib.Core.List.{[]};
-ghost use Prim.Native.Nat.{_+_, _-_, _^_, _≤_, _<_};
+ghost use Prim.Native.Nat.{_+_, _-_, _^_, _≤_, _<_, min};
 ghost use lib.ListN.{length, drop};
 ghost use Rattle.text.specs.Writing.{Printed, inRoom, over};
-ghost use Rattle.trace.specs.Records.{octetsOf, octet, two, detailOf, recorded, item};
-ghost use Rattle.trace.specs.Replay.{happens, lineOf, eventText};
-ghost use Rattle.trace.specs.Feed.{noTurn, turnOf, shareOf, share, answerOf, run, begins, fed, lastLine};
+ghost use Rattle.trace.specs.Records.{octetsOf, octet, two, detailOf, recorded, item, refusedStart};
+ghost use Rattle.trace.specs.Replay.{lineOf, onward, opened};
+ghost use Rattle.trace.specs.Feed.{noTurn, turnOf, shareOf, share, stageAt, answerOf, run, stays, begins, fed, isOver, tableOctets, lastLine};
 
 // What an event's record says: kind 1 a signal and its heading, 2 a command, 3 a timer, whose detail is 0.
 pub struct Recorded {
@@ -191,4 +191,183 @@ fn one_event(r: Running, table: &mut [u8], part: &[u8], at: usize, room: &mut [u
         return no_turn();
     }
     one_item(item_at(part, at), r, table, room)
+}
+
+fn onward(r: Running) -> Running
+    requires { ⌜ r .next < 18446744073709551615 ⌝ }
+    ensures { λ q. ⌜ q ≡ onward r ⌝ }
+{
+    let own = r.own;
+    let far = r.far;
+    Running {
+        own: own,
+        far: far,
+        circuits: r.circuits,
+        next: r.next + 1,
+    }
+}
+
+fn stage_at(i: Item, r: Running) -> Stage
+    ensures { λ q. ⌜ q ≡ stageAt i r ⌝ }
+{
+    match i {
+        Item::Event(_) => Stage::Runs(r),
+        Item::NoEvent => Stage::Cut(r.next),
+        Item::Short => Stage::Runs(r),
+        Item::End => Stage::Runs(r),
+    }
+}
+
+// Event after event, until none can be taken.
+fn run(r: Running, table: &mut [u8], part: &[u8], room: &mut [u8]) -> Fed
+    ensures answers { λ a. ⌜ a ≡ answerOf (run r (now (table .entry)) (now (part .entry)) (length (now (room .entry)))) ⌝ }
+    ensures leaves { λ a. ⌜ now (table .exit) ≡ run r (now (table .entry)) (now (part .entry)) (length (now (room .entry))) .table ⌝ }
+    ensures writes { λ a. ⌜ now (room .exit) ≡ over (run r (now (table .entry)) (now (part .entry)) (length (now (room .entry))) .text) (now (room .entry)) ⌝ }
+{
+    let mut here = r;
+    let mut at = 0;
+    let mut out = 0;
+    loop {
+        let t = one_event(here, table, part, at, &mut room[out..]);
+        if t.taken == 0 {
+            break;
+        }
+        at += t.taken;
+        out += t.written;
+        here = onward(here);
+    }
+    Fed {
+        taken: at,
+        written: out,
+        stage: stage_at(item_at(part, at), here),
+    }
+}
+
+fn stay(stage: Stage) -> Fed
+    ensures { λ a. ⌜ a ≡ answerOf (stays stage []) ⌝ }
+{
+    Fed {
+        taken: 0,
+        written: 0,
+        stage: stage,
+    }
+}
+
+fn refused_start(s: &[u8]) -> bool
+    ensures { λ r. ⌜ r ≡ refusedStart (now (s .entry)) ⌝ }
+{
+    let own = PointCode(two(s, 1) as u32);
+    let far = PointCode(two(s, 3) as u32);
+    let circuits = two(s, 5) as usize;
+    circuit::either(octet(s, 0) != 0, circuit::bad_group(own, far, circuits))
+}
+
+fn opened(s: &[u8]) -> Running
+    ensures { λ r. ⌜ r ≡ opened (now (s .entry)) ⌝ }
+{
+    Running {
+        own: PointCode(two(s, 1) as u32),
+        far: PointCode(two(s, 3) as u32),
+        circuits: two(s, 5),
+        next: 1,
+    }
+}
+
+// The group, once its record is there whole.
+fn begin(part: &[u8], room: &mut [u8]) -> Fed
+    ensures answers { λ a. ⌜ a ≡ answerOf (begins [] (now (part .entry)) (length (now (room .entry)))) ⌝ }
+    ensures writes { λ a. ⌜ now (room .exit) ≡ over (begins [] (now (part .entry)) (length (now (room .entry))) .text) (now (room .entry)) ⌝ }
+{
+    let octets = octets_of(0);
+    if part.len() < octets {
+        return stay(Stage::Start);
+    }
+    if refused_start(part) {
+        return stay(Stage::Bad);
+    }
+    if room.len() < text::LINE {
+        return stay(Stage::Start);
+    }
+    let r = opened(part);
+    let own = r.own;
+    let far = r.far;
+    let written = text::group_line(room, own.0, far.0, r.circuits);
+    Fed {
+        taken: octets,
+        written: written,
+        stage: Stage::Runs(r),
+    }
+}
+
+// A replay goes on with the next part of its trace, which starts at the first octet that was not taken yet.
+pub fn feed(stage: Stage, table: &mut [u8], part: &[u8], room: &mut [u8]) -> Fed
+    ensures answers { λ a. ⌜ a ≡ answerOf (fed stage (now (table .entry)) (now (part .entry)) (length (now (room .entry)))) ⌝ }
+    ensures leaves { λ a. ⌜ now (table .exit) ≡ fed stage (now (table .entry)) (now (part .entry)) (length (now (room .entry))) .table ⌝ }
+    ensures writes { λ a. ⌜ now (room .exit) ≡ over (fed stage (now (table .entry)) (now (part .entry)) (length (now (room .entry))) .text) (now (room .entry)) ⌝ }
+{
+    match stage {
+        Stage::Start => begin(part, room),
+        Stage::Bad => stay(Stage::Bad),
+        Stage::Runs(r) => run(r, table, part, room),
+        Stage::Cut(next) => stay(Stage::Cut(next)),
+    }
+}
+
+fn before(next: u64) -> u64
+    ensures { λ r. ⌜ r ≡ next - 1 ⌝ }
+{
+    if next == 0 { 0 } else { next - 1 }
+}
+
+fn last_of(r: Running, rest: &[u8], room: &mut [u8]) -> usize
+    ensures { λ n. ⌜ Printed (now (room .entry)) (inRoom (now (room .entry)) (lastLine (Stage.Runs r) (now (rest .entry)))) n (now (room .exit)) ⌝ }
+{
+    if rest.len() == 0 {
+        return text::end_line(room, before(r.next));
+    }
+    text::cut_line(room, r.next)
+}
+
+// The last line, where the trace has ended and `rest` is what was not taken of it, or where the replay is over.
+pub fn finish(stage: Stage, rest: &[u8], room: &mut [u8]) -> usize
+    ensures { λ n. ⌜ Printed (now (room .entry)) (inRoom (now (room .entry)) (lastLine stage (now (rest .entry)))) n (now (room .exit)) ⌝ }
+{
+    match stage {
+        Stage::Start => text::bad_group_line(room),
+        Stage::Bad => text::bad_group_line(room),
+        Stage::Runs(r) => last_of(r, rest, room),
+        Stage::Cut(next) => text::cut_line(room, next),
+    }
+}
+
+// Whether nothing more of the trace is to be read.
+pub fn is_over(stage: Stage) -> bool
+    ensures { λ r. ⌜ r ≡ isOver stage ⌝ }
+{
+    match stage {
+        Stage::Start => false,
+        Stage::Bad => true,
+        Stage::Runs(_) => false,
+        Stage::Cut(_) => true,
+    }
+}
+
+fn at_most(n: usize, most: usize) -> usize
+    ensures { λ r. ⌜ r ≡ min n most ⌝ }
+    ensures { λ r. ⌜ r ≤ most ⌝ }
+{
+    if n < most { n } else { most }
+}
+
+// The octets of the table that the group needs: at most 8,192.
+pub fn table_octets(stage: Stage) -> usize
+    ensures { λ r. ⌜ r ≡ tableOctets stage ⌝ }
+    ensures { λ r. ⌜ r ≤ 8192 ⌝ }
+{
+    match stage {
+        Stage::Start => 0,
+        Stage::Bad => 0,
+        Stage::Runs(r) => 2 * at_most(r.circuits as usize, 4096),
+        Stage::Cut(_) => 0,
+    }
 }
