@@ -23,8 +23,15 @@ happens r table e = stepIn (r .own .0) (r .far .0) table (e .circuit) (eventOf (
 -- ordinal, circuit, refusal, state, flags, indication, headings sent
 abbrev pub lineOf : ℕ → ℕ → Answer → Line
 lineOf ordinal circuit a = record {
-    ordinal = ordinal; circuit = circuit; refusal = a .refusal; state = a .state; flags = a .flags; ind = a .ind;
-    first = firstHeading (a .sends); second = secondHeading (a .sends) }
+  ordinal = ordinal;
+  circuit = circuit;
+  refusal = a .refusal;
+  state = a .state;
+  flags = a .flags;
+  ind = a .ind;
+  first = firstHeading (a .sends);
+  second = secondHeading (a .sends);
+}
 
 abbrev pub eventText : Running → List ℕ → Recorded → List ℕ
 eventText r table e = line (lineOf (r .next) (e .circuit) (happens r table e .answer))

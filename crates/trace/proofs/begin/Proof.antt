@@ -1,61 +1,44 @@
+-- `trace::begin` meets its contract.
+-- Assumes nothing.
 use Rattle.trace.proofs.Opening.{tooFew, isRefused, noLine, opens}
 use mathlib.Core.Path.{sym, _∙_}
 use borrow.Author.Needs.{needs}
 use Rattle.trace.proofs.begin.Statement.{statement}
 use Rattle.trace.proofs.begin.Tie as tie
-use Rattle.trace.proofs.begin.Reads as reads
-use Rattle.trace.proofs.begin.Lts as lts
-use Rattle.text.proofs.group_line.Reads as group-line-reads
-use Rattle.trace.proofs.octets_of.Reads as octets-of-reads
-use Rattle.trace.proofs.opened.Reads as opened-reads
-use Rattle.trace.proofs.refused_start.Reads as refused-start-reads
-use Rattle.trace.proofs.stay.Reads as stay-reads
 
--- src/lib.rt:281:9
 octets-of-requires : tie.Need-octets-of-requires
 octets-of-requires c κs = search needs
 
--- src/lib.rt:283:9
 stay-requires : tie.Need-stay-requires
 stay-requires c κs = search needs
 
--- src/lib.rt:283:9
 returns : tie.Need-returns
 returns c = rw (c .stay .ensures) (tooFew _ _ (rw (← c .before .before .octets-of .ensures) (c .before .if1 .taken)))
 
--- src/lib.rt:285:8
 refused-start-requires : tie.Need-refused-start-requires
 refused-start-requires c κs = search needs
 
--- src/lib.rt:286:9
 stay-requires-2 : tie.Need-stay-requires-2
 stay-requires-2 c κs = search needs
 
--- src/lib.rt:286:9
 returns-2 : tie.Need-returns-2
 returns-2 c = rw (c .stay2 .ensures) (isRefused _ _ (rw (← c .before .before .before .before .octets-of .ensures) (c .before .before .before .if1 .left)) (sym (c .before .before .refused-start .ensures) ∙ c .before .if2 .taken))
 
--- src/lib.rt:289:9
 stay-requires-3 : tie.Need-stay-requires-3
 stay-requires-3 c κs = search needs
 
--- src/lib.rt:289:9
 returns-3 : tie.Need-returns-3
 returns-3 c = rw (c .stay3 .ensures) (noLine _ _ (rw (← c .before .before .before .before .before .octets-of .ensures) (c .before .before .before .before .if1 .left)) (sym (c .before .before .before .refused-start .ensures) ∙ c .before .before .if2 .left) (c .before .if3 .taken))
 
--- src/lib.rt:291:9
 opened-requires : tie.Need-opened-requires
 opened-requires c κs = search needs
 
--- src/lib.rt:294:9
 group-line-requires : tie.Need-group-line-requires
 group-line-requires c κs = search needs
 
--- src/lib.rt:277:1
 same-length : tie.Need-same-length
 same-length c = search needs
 
--- src/lib.rt:277:1
 returns-4 : tie.Need-returns-4
 returns-4 c =
     opens _ _ _ _ _ _ (rw (← c .before .before .before .before .before .before .before .before .before .before .before .octets-of .ensures) (c .before .before .before .before .before .before .before .before .before .before .if1 .left)) (sym (c .before .before .before .before .before .before .before .before .before .refused-start .ensures) ∙ c .before .before .before .before .before .before .before .before .if2 .left) (c .before .before .before .before .before .before .before .if3 .left)

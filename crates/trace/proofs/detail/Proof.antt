@@ -1,14 +1,12 @@
+-- `trace::detail` meets its contract.
+-- Assumes nothing.
 use borrow.Author.Tests.{ne-eqb}
 use Rattle.trace.proofs.detail.Statement.{statement}
 use Rattle.trace.proofs.detail.Tie as tie
-use Rattle.trace.proofs.detail.Reads as reads
-use Rattle.trace.proofs.detail.Lts as lts
 
--- src/lib.rt:88:1
 returns : tie.Need-returns
 returns c = rw (c .if1 .taken)
 
--- src/lib.rt:88:1
 returns-2 : tie.Need-returns-2
 returns-2 c = simp (ne-eqb _ _ (c .if1 .left))
 

@@ -1,60 +1,43 @@
+-- `trace::event` meets its contract.
+-- Assumes nothing.
 use Rattle.trace.proofs.Turns.{eventLands}
 use borrow.Author.Needs.{needs}
 use Rattle.trace.proofs.event.Statement.{statement}
 use Rattle.trace.proofs.event.Tie as tie
-use Rattle.trace.proofs.event.Reads as reads
-use Rattle.trace.proofs.event.Lts as lts
-use Rattle.codes.proofs.event_of.Reads as event-of-reads
-use Rattle.group.proofs.step.Reads as step-reads
-use Rattle.text.proofs.event_line.Reads as event-line-reads
-use Rattle.trace.proofs.line_of.Reads as line-of-reads
-use Rattle.trace.proofs.octets_of.Reads as octets-of-reads
 
--- src/lib.rt:149:33
 cast-event-of : tie.Need-cast-event-of
 cast-event-of c = search needs
 
--- src/lib.rt:149:48
 cast-event-of-2 : tie.Need-cast-event-of-2
 cast-event-of-2 c = search needs
 
--- src/lib.rt:149:63
 cast-event-of-3 : tie.Need-cast-event-of-3
 cast-event-of-3 c = search needs
 
--- src/lib.rt:149:9
 event-of-requires : tie.Need-event-of-requires
 event-of-requires c κs = search needs
 
--- src/lib.rt:150:46
 cast-t10 : tie.Need-cast-t10
 cast-t10 c = search needs
 
--- src/lib.rt:150:9
 step-requires : tie.Need-step-requires
 step-requires c κs = search needs
 
--- src/lib.rt:151:42
 line-of-requires : tie.Need-line-of-requires
 line-of-requires c κs = search needs
 
--- src/lib.rt:151:9
 event-line-requires : tie.Need-event-line-requires
 event-line-requires c κs = search needs
 
--- src/lib.rt:153:16
 octets-of-requires : tie.Need-octets-of-requires
 octets-of-requires c κs = search needs
 
--- src/lib.rt:141:1
 same-length : tie.Need-same-length
 same-length c = search needs
 
--- src/lib.rt:141:1
 same-length-2 : tie.Need-same-length-2
 same-length-2 c = search needs
 
--- src/lib.rt:141:1
 returns : tie.Need-returns
 returns c =
     let k = c .before .before .before .before .before .before .before .before .step .ensures in

@@ -1,3 +1,5 @@
+-- `trace::item_at` meets its contract.
+-- Assumes nothing.
 use Rattle.trace.specs.declared.Item.the-variants.{Event}
 use Rattle.trace.proofs.Items.{endsAt, noEventAt, shortAt, eventAt}
 use Rattle.trace.specs.Records.{noEvent, octetsOf}
@@ -6,48 +8,33 @@ use mathlib.Core.Path.{_≡_, sym, ap, _∙_}
 use borrow.Author.Needs.{needs}
 use Rattle.trace.proofs.item_at.Statement.{statement}
 use Rattle.trace.proofs.item_at.Tie as tie
-use Rattle.trace.proofs.item_at.Reads as reads
-use Rattle.trace.proofs.item_at.Lts as lts
-use Rattle.circuit.proofs.either.Reads as either-reads
-use Rattle.trace.proofs.octet.Reads as octet-reads
-use Rattle.trace.proofs.octets_of.Reads as octets-of-reads
-use Rattle.trace.proofs.recorded_at.Reads as recorded-at-reads
 
--- src/lib.rt:112:9
 returns : tie.Need-returns
 returns c = sym (endsAt _ _ (c .if1 .taken))
 
--- src/lib.rt:114:9
 octet-requires : tie.Need-octet-requires
 octet-requires c κs = search needs
 
--- src/lib.rt:115:8
 either-requires : tie.Need-either-requires
 either-requires c κs = search needs
 
--- src/lib.rt:116:9
 returns-2 : tie.Need-returns-2
 returns-2 c = sym (noEventAt _ _ (c .before .before .before .if1 .left) (ap noEvent (sym (c .before .before .octet .ensures)) ∙ sym (c .before .either .ensures) ∙ c .if2 .taken))
 
--- src/lib.rt:118:8
 sub-if3 : tie.Need-sub-if3
 sub-if3 c = search needs
 
--- src/lib.rt:118:23
 octets-of-requires : tie.Need-octets-of-requires
 octets-of-requires c κs = search needs
 
--- src/lib.rt:119:9
 returns-3 : tie.Need-returns-3
 returns-3 c =
     let o = c .before .before .before .before .octet .ensures in
     sym (shortAt _ _ (c .before .before .before .before .before .if1 .left) (ap noEvent (sym o) ∙ sym (c .before .before .before .either .ensures) ∙ c .before .before .if2 .left) (omega (arith, c .if3 .taken, c .before .octets-of .ensures, ap octetsOf o)))
 
--- src/lib.rt:121:17
 recorded-at-requires : tie.Need-recorded-at-requires
 recorded-at-requires c κs = search needs
 
--- src/lib.rt:108:1
 returns-4 : tie.Need-returns-4
 returns-4 c =
     let o = c .before .before .before .before .before .octet .ensures in

@@ -1,20 +1,17 @@
+-- `trace::octet` meets its contract.
+-- Assumes nothing.
 use lib.ListN.{List·getD-eq-default}
 use mathlib.Core.Path.{sym}
 use borrow.Author.Needs.{needs}
 use Rattle.trace.proofs.octet.Statement.{statement}
 use Rattle.trace.proofs.octet.Tie as tie
-use Rattle.trace.proofs.octet.Reads as reads
-use Rattle.trace.proofs.octet.Lts as lts
 
--- src/lib.rt:78:23
 shared-slice-read-result : tie.Need-shared-slice-read-result
 shared-slice-read-result c = search needs
 
--- src/lib.rt:75:1
 returns : tie.Need-returns
 returns c = search needs
 
--- src/lib.rt:75:1
 returns-2 : tie.Need-returns-2
 returns-2 c = sym (List·getD-eq-default (c .before .args .s .now) 0 (c .if1 .left))
 

@@ -1,47 +1,35 @@
+-- `trace::one_event` meets its contract.
+-- Assumes nothing.
 use lib.ListN.{drop}
 use Rattle.trace.proofs.Turns.{noRoom, noOrdinal, mayTake}
 use borrow.Author.Needs.{needs}
 use Rattle.trace.proofs.one_event.Statement.{statement}
 use Rattle.trace.proofs.one_event.Tie as tie
-use Rattle.trace.proofs.one_event.Reads as reads
-use Rattle.trace.proofs.one_event.Lts as lts
-use Rattle.trace.proofs.item_at.Reads as item-at-reads
-use Rattle.trace.proofs.no_turn.Reads as no-turn-reads
-use Rattle.trace.proofs.one_item.Reads as one-item-reads
 
--- src/lib.rt:188:9
 no-turn-requires : tie.Need-no-turn-requires
 no-turn-requires c κs = search needs
 
--- src/lib.rt:188:9
 returns : tie.Need-returns
 returns c = rw (c .no-turn .ensures) (noRoom _ _ _ _ (c .before .if1 .taken))
 
--- src/lib.rt:191:9
 no-turn-requires-2 : tie.Need-no-turn-requires-2
 no-turn-requires-2 c κs = search needs
 
--- src/lib.rt:191:9
 returns-2 : tie.Need-returns-2
 returns-2 c = rw (c .no-turn2 .ensures) (noOrdinal _ _ _ _ (c .before .if2 .taken) (c .before .before .before .if1 .left))
 
--- src/lib.rt:193:14
 item-at-requires : tie.Need-item-at-requires
 item-at-requires c κs = search needs
 
--- src/lib.rt:193:5
 one-item-requires : tie.Need-one-item-requires
 one-item-requires c κs = search needs
 
--- src/lib.rt:182:1
 same-length : tie.Need-same-length
 same-length c = search needs
 
--- src/lib.rt:182:1
 same-length-2 : tie.Need-same-length-2
 same-length-2 c = search needs
 
--- src/lib.rt:182:1
 returns-3 : tie.Need-returns-3
 returns-3 c =
     let a = c .before .before .before .before .before .before .before .before .before .before .before .before .before .before .args in

@@ -1,65 +1,49 @@
+-- `trace::one_item` meets its contract.
+-- Assumes nothing.
 use mathlib.Core.Path.{refl}
 use borrow.Author.Needs.{needs}
 use Rattle.trace.proofs.one_item.Statement.{statement}
 use Rattle.trace.proofs.one_item.Tie as tie
-use Rattle.trace.proofs.one_item.Reads as reads
-use Rattle.trace.proofs.one_item.Lts as lts
-use Rattle.trace.proofs.event.Reads as event-reads
-use Rattle.trace.proofs.no_turn.Reads as no-turn-reads
 
--- src/lib.rt:174:21
 enum-known-i : tie.Need-enum-known-i
 enum-known-i c = search needs
 
--- src/lib.rt:174:27
 event-requires : tie.Need-event-requires
 event-requires c κs = search needs
 
--- src/lib.rt:175:26
 enum-told : tie.Need-enum-told
 enum-told c = search needs
 
--- src/lib.rt:175:26
 no-turn-requires : tie.Need-no-turn-requires
 no-turn-requires c κs = search needs
 
--- src/lib.rt:176:24
 enum-told-2 : tie.Need-enum-told-2
 enum-told-2 c = search needs
 
--- src/lib.rt:176:24
 no-turn-requires-2 : tie.Need-no-turn-requires-2
 no-turn-requires-2 c κs = search needs
 
--- src/lib.rt:177:22
 enum-told-3 : tie.Need-enum-told-3
 enum-told-3 c = search needs
 
--- src/lib.rt:177:22
 no-turn-requires-3 : tie.Need-no-turn-requires-3
 no-turn-requires-3 c κs = search needs
 
--- src/lib.rt:167:1
 same-length : tie.Need-same-length
 same-length c = search needs
 
--- src/lib.rt:167:1
 same-length-2 : tie.Need-same-length-2
 same-length-2 c = search needs
 
--- src/lib.rt:167:1
 returns : tie.Need-returns
 returns c = rw (c .before .before .before .before .before .before .before .before .i .given .1) (c .before .before .before .before .event .ensures)
 
--- src/lib.rt:167:1
 returns-2 : tie.Need-returns-2
 returns-2 c = rw (c .before .enum-told .given .1) (c .no-turn .ensures, (refl, refl))
 
--- src/lib.rt:167:1
 returns-3 : tie.Need-returns-3
 returns-3 c = rw (c .before .enum-told2 .given .1) (c .no-turn2 .ensures, (refl, refl))
 
--- src/lib.rt:167:1
 returns-4 : tie.Need-returns-4
 returns-4 c = rw (c .before .enum-told3 .given .1) (c .no-turn3 .ensures, (refl, refl))
 

@@ -1,50 +1,36 @@
+-- `trace::refused_start` meets its contract.
+-- Assumes nothing.
 use borrow.Author.Needs.{needs}
 use Rattle.trace.proofs.refused_start.Statement.{statement}
 use Rattle.trace.proofs.refused_start.Tie as tie
-use Rattle.trace.proofs.refused_start.Reads as reads
-use Rattle.trace.proofs.refused_start.Lts as lts
-use Rattle.circuit.proofs.bad_group.Reads as bad-group-reads
-use Rattle.circuit.proofs.either.Reads as either-reads
-use Rattle.trace.proofs.octet.Reads as octet-reads
-use Rattle.trace.proofs.two.Reads as two-reads
 
--- src/lib.rt:259:25
 two-requires : tie.Need-two-requires
 two-requires c κs = search needs
 
--- src/lib.rt:259:25
 cast-t6 : tie.Need-cast-t6
 cast-t6 c = search needs
 
--- src/lib.rt:260:25
 two-requires-2 : tie.Need-two-requires-2
 two-requires-2 c κs = search needs
 
--- src/lib.rt:260:25
 cast-t6-2 : tie.Need-cast-t6-2
 cast-t6-2 c = search needs
 
--- src/lib.rt:261:20
 two-requires-3 : tie.Need-two-requires-3
 two-requires-3 c κs = search needs
 
--- src/lib.rt:261:20
 cast-circuits : tie.Need-cast-circuits
 cast-circuits c = search needs
 
--- src/lib.rt:262:21
 octet-requires : tie.Need-octet-requires
 octet-requires c κs = search needs
 
--- src/lib.rt:262:39
 bad-group-requires : tie.Need-bad-group-requires
 bad-group-requires c κs = search needs
 
--- src/lib.rt:262:5
 either-requires : tie.Need-either-requires
 either-requires c κs = search needs
 
--- src/lib.rt:256:1
 returns : tie.Need-returns
 returns c = rw (c .either .ensures, c .before .bad-group .ensures, c .before .before .octet .ensures, c .before .before .before .two3 .ensures, c .before .before .before .before .two2 .ensures, c .before .before .before .before .before .two .ensures)
 

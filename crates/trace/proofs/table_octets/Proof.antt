@@ -1,52 +1,40 @@
+-- `trace::table_octets` meets its contract.
+-- Assumes nothing.
 use native.Mathlib.Omega.{arith}
 use borrow.Author.Needs.{needs}
 use Rattle.trace.proofs.table_octets.Statement.{statement}
 use Rattle.trace.proofs.table_octets.Tie as tie
-use Rattle.trace.proofs.table_octets.Reads as reads
-use Rattle.trace.proofs.table_octets.Lts as lts
-use Rattle.trace.proofs.at_most.Reads as at-most-reads
 
--- src/lib.rt:368:25
 enum-told : tie.Need-enum-told
 enum-told c = search needs
 
--- src/lib.rt:369:23
 enum-told-2 : tie.Need-enum-told-2
 enum-told-2 c = search needs
 
--- src/lib.rt:370:21
 enum-known-stage : tie.Need-enum-known-stage
 enum-known-stage c = search needs
 
--- src/lib.rt:370:39
 cast-at-most : tie.Need-cast-at-most
 cast-at-most c = search needs
 
--- src/lib.rt:370:31
 at-most-requires : tie.Need-at-most-requires
 at-most-requires c κs = search needs
 
--- src/lib.rt:370:27
 mul-result : tie.Need-mul-result
 mul-result c = search needs
 
--- src/lib.rt:371:26
 enum-told-3 : tie.Need-enum-told-3
 enum-told-3 c = search needs
 
--- src/lib.rt:363:1
 returns : tie.Need-returns
 returns c = search needs
 
--- src/lib.rt:363:1
 returns-2 : tie.Need-returns-2
 returns-2 c = search needs
 
--- src/lib.rt:363:1
 returns-3 : tie.Need-returns-3
 returns-3 c = (rw (c .before .before .before .stage .given .1, c .at-most .ensures .0), omega (arith, c .at-most .ensures .1))
 
--- src/lib.rt:363:1
 returns-4 : tie.Need-returns-4
 returns-4 c = search needs
 
