@@ -12,7 +12,7 @@ use lib.Seq.{length-take-le, take-all, take-at, drop-at, drop-drop}
 use borrow.Author.Tests.{eq-eqb, ne-eqb, eqb-true, eqb-false, ltb-true, ltb-false}
 use borrow.Rule.Slice.PartMut.{midOf, putMid, same-len-mid}
 use Rattle.text.specs.Numbers.{byTest}
-use Rattle.text.specs.Writing.{over, lineRoom}
+use Rattle.text.specs.Writing.{Printed, over, lineRoom}
 use Rattle.trace.specs.declared.Recorded.{Recorded}
 use Rattle.trace.specs.declared.Item.{Item}
 use Rattle.trace.specs.declared.Item.the-variants.{Event, NoEvent, Short, End}
@@ -141,7 +141,7 @@ putAll : (room ys : List ℕ) (out : ℕ) → putMid out (length room - out) roo
 putAll room ys out = rw (drop-of-length-le (drop out room) {i = length room - out} (rw length-drop (omega arith)), append-nil)
 
 -- a text that was put over a room and left its length fits into it
-fitsRoom : (x m : List ℕ) → length (over x m) ≡ length m → length x ≤ length m
+pub fitsRoom : (x m : List ℕ) → length (over x m) ≡ length m → length x ≤ length m
 fitsRoom x m e = omega (arith, length-append x (drop (length x) m), length-drop (length x) m)
 
 twice : (a b : ℕ) (x y : List ℕ) (p : Part) → behind a x (behind b y p) ≡ behind (a + b) (x ++ y) p
@@ -157,6 +157,9 @@ from : (room x m : List ℕ) (out : ℕ) → out ≤ length room → drop (out +
 from room x m out h =
     rw (← append-assoc (take out room) x (drop (length x) m))
     (drop-at (take out room ++ x) (drop (length x) m) (out + length x) (rw (length-append, length-take-le out room h)))
+
+pub printedIn : {b x : List ℕ} {n : ℕ} {a : List ℕ} → Printed b x n a → length a ≡ length b → Printed b x n a × (n ≤ length b)
+printedIn {b} {x} {n} {a} p k = (p, omega (arith, p .count, fitsRoom x b (rw (p .room) at k)))
 
 module _ (r₀ : Running) (table₀ part room₀ : List ℕ) (r : Running) (table room : List ℕ) (at out : ℕ) (table' ys : List ℕ) where
   -- an event was taken
@@ -195,7 +198,8 @@ module _ (r₀ : Running) (table₀ part room₀ : List ℕ) (r : Running) (tabl
       → table' ≡ h .table → ys ≡ over (h .text) m
       → h .taken ≡ 0
       → (record { taken = at; written = out; stage = stageAt (item (drop at part)) r } ≡ answerOf (run r₀ table₀ part (length room₀)))
-      × ((table' ≡ run r₀ table₀ part (length room₀) .table) × (putMid out (length room - out) room ys ≡ over (run r₀ table₀ part (length room₀) .text) room₀))
+      × ((table' ≡ run r₀ table₀ part (length room₀) .table) × ((putMid out (length room - out) room ys ≡ over (run r₀ table₀ part (length room₀) .text) room₀)
+      × ((at ≤ length part) × (out ≤ length room₀))))
   unfolding stops
   stopped u m me h he te ye z =
       let mm : m ≡ drop out room = me ∙ midAll room out in
@@ -207,7 +211,7 @@ module _ (r₀ : Running) (table₀ part room₀ : List ℕ) (r : Running) (tabl
       u .left ∙ ap (λ (n : ℕ). behind at (take out room) (run r table (drop at part) n)) (sym ml) ∙ ap (behind at (take out room)) (runStops r table (drop at part) (length m) (rw he at z)) in
       let rest : putMid out (length room - out) room ys ≡ take out room ++ drop out room =
       putAll room ys out ∙ ap (λ (l : List ℕ). take out room ++ l) (ye ∙ ap (λ (k : Share). over (k .text) m) hn ∙ mm) in
-      rw l (simp (append-nil, add-zero, tl), (rw (te, hn), rw (rest, append-nil, tl, u .behindOut)))
+      rw l (simp (append-nil, add-zero, tl), (rw (te, hn), (rw (rest, append-nil, tl, u .behindOut), (u .atIn, u .outIn))))
 
 ordinalBelow : (a b : Bool) → (a && b) ≡ true → b ≡ true
 ordinalBelow true b e = e

@@ -4,7 +4,7 @@ use mathlib.Core.Bool.{Bool, true, false, cond, _&&_}
 use mathlib.Core.List.{List, [], _++_}
 use Prim.Native.Nat.{ℕ, zero, suc, _+_, _-_, _*_, min}
 use lib.Dec.{eqb, leb, ltb}
-use lib.ListN.{length, drop}
+use lib.ListN.{length, take, drop}
 use Rattle.text.specs.Lines.{groupLine, endLine, cutLine, badGroupLine}
 use Rattle.text.specs.Writing.{lineRoom}
 use Rattle.trace.specs.declared.Recorded.{Recorded}
@@ -119,3 +119,7 @@ lastLine Start rest = badGroupLine
 lastLine Bad rest = badGroupLine
 lastLine (Runs r) rest = cond (eqb (length rest) 0) (endLine (r .next - 1)) (cutLine (r .next))
 lastLine (Cut next) rest = cutLine next
+
+-- the octets from one place of a buffer up to another
+unfoldable pub kept : List ℕ → ℕ → ℕ → List ℕ
+kept buffer at have = cond (ltb (length buffer) have) [] (take (have - at) (drop at buffer))

@@ -11,7 +11,7 @@ ghost use lib.ListN.{length, drop};
 ghost use Rattle.text.specs.Writing.{Printed, inRoom, over};
 ghost use Rattle.trace.specs.Records.{octetsOf, octet, two, detailOf, recorded, item, refusedStart};
 ghost use Rattle.trace.specs.Replay.{lineOf, onward, opened};
-ghost use Rattle.trace.specs.Feed.{noTurn, turnOf, shareOf, share, stageAt, answerOf, run, stays, begins, fed, isOver, tableOctets, lastLine};
+ghost use Rattle.trace.specs.Feed.{noTurn, turnOf, shareOf, share, stageAt, answerOf, run, stays, begins, fed, isOver, tableOctets, lastLine, kept};
 
 // What an event's record says: kind 1 a signal and its heading, 2 a command, 3 a timer, whose detail is 0.
 pub struct Recorded {
@@ -223,6 +223,7 @@ fn run(r: Running, table: &mut [u8], part: &[u8], room: &mut [u8]) -> Fed
     ensures answers { λ a. ⌜ a ≡ answerOf (run r (now (table .entry)) (now (part .entry)) (length (now (room .entry)))) ⌝ }
     ensures leaves { λ a. ⌜ now (table .exit) ≡ run r (now (table .entry)) (now (part .entry)) (length (now (room .entry))) .table ⌝ }
     ensures writes { λ a. ⌜ now (room .exit) ≡ over (run r (now (table .entry)) (now (part .entry)) (length (now (room .entry))) .text) (now (room .entry)) ⌝ }
+    ensures within { λ a. ⌜ (a .taken ≤ length (now (part .entry))) × (a .written ≤ length (now (room .entry))) ⌝ }
 {
     let mut here = r;
     let mut at = 0;
@@ -277,6 +278,7 @@ fn opened(s: &[u8]) -> Running
 fn begin(part: &[u8], room: &mut [u8]) -> Fed
     ensures answers { λ a. ⌜ a ≡ answerOf (begins [] (now (part .entry)) (length (now (room .entry)))) ⌝ }
     ensures writes { λ a. ⌜ now (room .exit) ≡ over (begins [] (now (part .entry)) (length (now (room .entry))) .text) (now (room .entry)) ⌝ }
+    ensures within { λ a. ⌜ (a .taken ≤ length (now (part .entry))) × (a .written ≤ length (now (room .entry))) ⌝ }
 {
     let octets = octets_of(0);
     if part.len() < octets {
@@ -304,6 +306,7 @@ pub fn feed(stage: Stage, table: &mut [u8], part: &[u8], room: &mut [u8]) -> Fed
     ensures answers { λ a. ⌜ a ≡ answerOf (fed stage (now (table .entry)) (now (part .entry)) (length (now (room .entry)))) ⌝ }
     ensures leaves { λ a. ⌜ now (table .exit) ≡ fed stage (now (table .entry)) (now (part .entry)) (length (now (room .entry))) .table ⌝ }
     ensures writes { λ a. ⌜ now (room .exit) ≡ over (fed stage (now (table .entry)) (now (part .entry)) (length (now (room .entry))) .text) (now (room .entry)) ⌝ }
+    ensures within { λ a. ⌜ (a .taken ≤ length (now (part .entry))) × (a .written ≤ length (now (room .entry))) ⌝ }
 {
     match stage {
         Stage::Start => begin(part, room),
@@ -321,6 +324,7 @@ fn before(next: u64) -> u64
 
 fn last_of(r: Running, rest: &[u8], room: &mut [u8]) -> usize
     ensures { λ n. ⌜ Printed (now (room .entry)) (inRoom (now (room .entry)) (lastLine (Stage.Runs r) (now (rest .entry)))) n (now (room .exit)) ⌝ }
+    ensures { λ n. ⌜ n ≤ length (now (room .entry)) ⌝ }
 {
     if rest.len() == 0 {
         return text::end_line(room, before(r.next));
@@ -331,6 +335,7 @@ fn last_of(r: Running, rest: &[u8], room: &mut [u8]) -> usize
 // The last line, where the trace has ended and `rest` is what was not taken of it, or where the replay is over.
 pub fn finish(stage: Stage, rest: &[u8], room: &mut [u8]) -> usize
     ensures { λ n. ⌜ Printed (now (room .entry)) (inRoom (now (room .entry)) (lastLine stage (now (rest .entry)))) n (now (room .exit)) ⌝ }
+    ensures { λ n. ⌜ n ≤ length (now (room .entry)) ⌝ }
 {
     match stage {
         Stage::Start => text::bad_group_line(room),
@@ -370,4 +375,25 @@ pub fn table_octets(stage: Stage) -> usize
         Stage::Runs(r) => 2 * at_most(r.circuits as usize, 4096),
         Stage::Cut(_) => 0,
     }
+}
+
+// Moves what lies from `at` up to `have` to the start of a buffer, and answers how many octets that is: none where the two are no places of it.
+pub fn keep(buffer: &mut [u8], at: usize, have: usize) -> usize
+    ensures answers { λ r. ⌜ r ≡ length (kept (now (buffer .entry)) at have) ⌝ }
+    ensures moves { λ r. ⌜ now (buffer .exit) ≡ over (kept (now (buffer .entry)) at have) (now (buffer .entry)) ⌝ }
+    ensures within { λ r. ⌜ r ≤ length (now (buffer .entry)) ⌝ }
+{
+    if buffer.len() < have {
+        return 0;
+    }
+    if have < at {
+        return 0;
+    }
+    let n = have - at;
+    let mut i = 0;
+    while i < n {
+        buffer[i] = buffer[at + i];
+        i += 1;
+    }
+    n
 }

@@ -42,7 +42,7 @@ same-length c = search needs
 returns-4 : tie.Need-returns-4
 returns-4 c =
     opens _ _ _ _ _ _ (rw (← c .before .before .before .before .before .before .before .before .before .before .before .octets-of .ensures) (c .before .before .before .before .before .before .before .before .before .before .if1 .left)) (sym (c .before .before .before .before .before .before .before .before .before .refused-start .ensures) ∙ c .before .before .before .before .before .before .before .before .if2 .left) (c .before .before .before .before .before .before .before .if3 .left)
-    (c .before .before .before .before .before .before .opened .ensures) (c .before .before .group-line .ensures) (c .before .before .before .before .before .before .before .before .before .before .before .octets-of .ensures)
+    (c .before .before .before .before .before .before .opened .ensures) (c .before .before .group-line .ensures) (c .before .before .before .before .before .before .before .before .before .before .before .octets-of .ensures) (c .before .before .group-line .kept .0)
 
 pub begin-spec : {M : Type 1} → statement M
 begin-spec =

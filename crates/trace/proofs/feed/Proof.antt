@@ -1,5 +1,8 @@
 -- `trace::feed` meets its contract.
 -- Assumes nothing.
+use native.Mathlib.Omega.{arith}
+-- `trace::feed` meets its contract.
+-- Assumes nothing.
 use Rattle.trace.proofs.Opening.{begunIn}
 use Rattle.trace.specs.Feed.{fed}
 use mathlib.Core.Path.{refl}
@@ -40,7 +43,7 @@ returns c = let a = c .before .before .before .before .before .before .before .b
 
 returns-2 : tie.Need-returns-2
 unfolding fed
-returns-2 c = rw (c .before .enum-told2 .given .1) (c .stay .ensures, (refl, refl))
+returns-2 c = rw (c .before .enum-told2 .given .1, c .stay .ensures) (refl, (refl, (refl, (omega arith, omega arith))))
 
 same-length-2 : tie.Need-same-length-2
 same-length-2 c = search needs
@@ -54,7 +57,7 @@ returns-3 c = rw (c .before .before .before .before .before .before .before .bef
 
 returns-4 : tie.Need-returns-4
 unfolding fed
-returns-4 c = rw (c .before .before .stage2 .given .1) (c .stay2 .ensures, (refl, refl))
+returns-4 c = rw (c .before .before .stage2 .given .1, c .stay2 .ensures) (refl, (refl, (refl, (omega arith, omega arith))))
 
 pub feed-spec : {M : Type 1} → statement M
 feed-spec =

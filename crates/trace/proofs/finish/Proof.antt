@@ -1,5 +1,8 @@
 -- `trace::finish` meets its contract.
 -- Assumes nothing.
+use Rattle.trace.proofs.Runs.{printedIn}
+-- `trace::finish` meets its contract.
+-- Assumes nothing.
 use Rattle.trace.specs.Feed.{lastLine}
 use borrow.Author.Needs.{needs}
 use Rattle.trace.proofs.finish.Statement.{statement}
@@ -34,14 +37,14 @@ same-length c = search needs
 
 returns : tie.Need-returns
 unfolding lastLine
-returns c = rw (c .before .before .before .before .enum-told .given .1) (c .before .before .bad-group-line .ensures)
+returns c = let e = c .before .before .bad-group-line in rw (c .before .before .before .before .enum-told .given .1) (printedIn (e .ensures) (e .kept .0))
 
 same-length-2 : tie.Need-same-length-2
 same-length-2 c = search needs
 
 returns-2 : tie.Need-returns-2
 unfolding lastLine
-returns-2 c = rw (c .before .before .before .before .enum-told2 .given .1) (c .before .before .bad-group-line2 .ensures)
+returns-2 c = let e = c .before .before .bad-group-line2 in rw (c .before .before .before .before .enum-told2 .given .1) (printedIn (e .ensures) (e .kept .0))
 
 same-length-3 : tie.Need-same-length-3
 same-length-3 c = search needs
@@ -54,7 +57,7 @@ same-length-4 c = search needs
 
 returns-4 : tie.Need-returns-4
 unfolding lastLine
-returns-4 c = rw (c .before .before .before .before .before .stage2 .given .1) (c .before .before .cut-line .ensures)
+returns-4 c = let e = c .before .before .cut-line in rw (c .before .before .before .before .before .stage2 .given .1) (printedIn (e .ensures) (e .kept .0))
 
 pub finish-spec : {M : Type 1} → statement M
 finish-spec =

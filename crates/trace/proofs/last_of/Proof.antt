@@ -1,5 +1,8 @@
 -- `trace::last_of` meets its contract.
 -- Assumes nothing.
+use Rattle.trace.proofs.Runs.{printedIn}
+-- `trace::last_of` meets its contract.
+-- Assumes nothing.
 use Rattle.trace.specs.Feed.{lastLine}
 use borrow.Author.Tests.{ne-eqb}
 use borrow.Author.Needs.{needs}
@@ -17,7 +20,7 @@ same-length c = search needs
 
 returns : tie.Need-returns
 unfolding lastLine
-returns c = rw (c .before .before .before .before .before .if1 .taken, ← c .before .before .before .before2 .ensures) (c .before .before .end-line .ensures)
+returns c = let e = c .before .before .end-line in rw (c .before .before .before .before .before .if1 .taken, ← c .before .before .before .before2 .ensures) (printedIn (e .ensures) (e .kept .0))
 
 cut-line-requires : tie.Need-cut-line-requires
 cut-line-requires c κs = search needs
@@ -27,7 +30,7 @@ same-length-2 c = search needs
 
 returns-2 : tie.Need-returns-2
 unfolding lastLine
-returns-2 c = rw (ne-eqb _ _ (c .before .before .before .before .if1 .left)) (c .before .before .cut-line .ensures)
+returns-2 c = let e = c .before .before .cut-line in rw (ne-eqb _ _ (c .before .before .before .before .if1 .left)) (printedIn (e .ensures) (e .kept .0))
 
 pub last-of-spec : {M : Type 1} → statement M
 last-of-spec =
