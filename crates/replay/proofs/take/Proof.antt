@@ -1,0 +1,101 @@
+-- `replay::take` meets its contract.
+-- Assumes nothing.
+use lib.Seq.{length-take-le}
+use native.Mathlib.Omega.{arith}
+use mathlib.Core.Path.{sym, _∙_}
+use borrow.Author.Needs.{needs}
+use Rattle.replay.proofs.take.Statement.{statement}
+use Rattle.replay.proofs.take.Tie as tie
+
+table-octets-requires : tie.Need-table-octets-requires
+table-octets-requires c κs = search needs
+
+slice-aggregate-failed : tie.Need-slice-aggregate-failed
+slice-aggregate-failed c = search needs
+
+failed-requires : tie.Need-failed-requires
+failed-requires c κs = search needs
+
+returns : tie.Need-returns
+returns c = search needs
+
+slice-relend-prefix-feed : tie.Need-slice-relend-prefix-feed
+slice-relend-prefix-feed c = search needs
+
+slice-aggregate-feed : tie.Need-slice-aggregate-feed
+slice-aggregate-feed c = sym (length-take-le _ _ (search needs))
+
+sub-feed : tie.Need-sub-feed
+sub-feed c = search needs
+
+part-feed-start : tie.Need-part-feed-start
+part-feed-start c = search needs
+
+part-feed-end : tie.Need-part-feed-end
+part-feed-end c = search needs
+
+feed-requires : tie.Need-feed-requires
+feed-requires c κs = search needs
+
+slice-reshare-prefix-write-all : tie.Need-slice-reshare-prefix-write-all
+slice-reshare-prefix-write-all c = search needs
+
+slice-aggregate-write-all : tie.Need-slice-aggregate-write-all
+slice-aggregate-write-all c = let f = c .before .before .before .before .before .feed in sym (length-take-le _ _ (omega (arith, f .ensures .1 .1 .1 .1, f .kept .1 .1 .1 .0)))
+
+write-all-requires : tie.Need-write-all-requires
+write-all-requires c κs = search needs
+
+slice-aggregate-failed-2 : tie.Need-slice-aggregate-failed-2
+slice-aggregate-failed-2 c = search needs
+
+failed-requires-2 : tie.Need-failed-requires-2
+failed-requires-2 c κs = search needs
+
+same-length : tie.Need-same-length
+same-length c = search needs
+
+same-length-2 : tie.Need-same-length-2
+same-length-2 c = search needs
+
+returns-2 : tie.Need-returns-2
+returns-2 c = search needs
+
+add-t15 : tie.Need-add-t15
+add-t15 c = search needs
+
+same-length-3 : tie.Need-same-length-3
+same-length-3 c = search needs
+
+same-length-4 : tie.Need-same-length-4
+same-length-4 c = search needs
+
+returns-3 : tie.Need-returns-3
+returns-3 c = search needs
+
+pub take-spec : {M : Type 1} → statement M
+take-spec =
+    tie.close
+    (tie.spec
+    table-octets-requires
+    slice-aggregate-failed
+    failed-requires
+    returns
+    slice-relend-prefix-feed
+    slice-aggregate-feed
+    sub-feed
+    part-feed-start
+    part-feed-end
+    feed-requires
+    slice-reshare-prefix-write-all
+    slice-aggregate-write-all
+    write-all-requires
+    slice-aggregate-failed-2
+    failed-requires-2
+    same-length
+    same-length-2
+    returns-2
+    add-t15
+    same-length-3
+    same-length-4
+    returns-3)

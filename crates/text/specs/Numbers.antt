@@ -1,0 +1,71 @@
+-- Numbers as text, in ASCII: decimal with no leading zeros, and an octet in two hexadecimal digits.
+-- Assumes nothing.
+use mathlib.Core.Path.{_≡_, refl, ap}
+use mathlib.Core.Bool.{Bool, true, false, cond}
+use mathlib.Core.List.{List, [], _∷_, _++_}
+use Prim.Native.Nat.{ℕ, zero, suc, _+_, _*_, _-_, _/_, _%_, _^_, _<_, _≤_}
+use native.Mathlib.Nat.{pow-suc}
+use native.Mathlib.Omega.{arith}
+use lib.Dec.{ltb}
+use lib.ListN.{length, length-append}
+use borrow.Author.Tests.{ltb-true, ltb-false, lt-ltb, le-ltb}
+
+-- a proof by cases on a test
+pub byTest : {P : Type 0} (b : Bool) → (b ≡ true → P) → (b ≡ false → P) → P
+byTest true f g = f refl
+byTest false f g = g refl
+
+-- the digits of n, where it has at most k
+unfoldable pub digitsWithin : ℕ → ℕ → List ℕ
+digitsWithin zero n = []
+digitsWithin (suc k) n = cond (ltb n 10) ((48 + n) ∷ []) (digitsWithin k (n / 10) ++ ((48 + n % 10) ∷ []))
+
+-- n in decimal: it has at most n + 1 digits
+unfoldable pub decimal : ℕ → List ℕ
+decimal n = digitsWithin (suc n) n
+
+-- a hexadecimal digit, in lower case
+abbrev pub hexDigit : ℕ → ℕ
+hexDigit d = cond (ltb d 10) (48 + d) (87 + d)
+
+abbrev pub hex : ℕ → List ℕ
+hex octet = hexDigit (octet / 16) ∷ hexDigit (octet % 16) ∷ []
+
+-- any bound that is large enough gives the same digits
+enough : (j k n : ℕ) → n < j → n < k → digitsWithin j n ≡ digitsWithin k n
+unfolding digitsWithin
+enough zero k n h i = absurd (omega arith)
+enough (suc j) zero n h i = absurd (omega arith)
+enough (suc j) (suc k) n h i =
+    byTest (ltb n 10) (λ e. simp e) (λ e. let l : 10 ≤ n = ltb-false _ _ e in simp (e, enough j k (n / 10) (omega arith) (omega arith)))
+
+pub decimal-small : (n : ℕ) → n < 10 → decimal n ≡ (48 + n) ∷ []
+unfolding decimal digitsWithin
+decimal-small n h = simp (lt-ltb n 10 h)
+
+pub decimal-large : (n : ℕ) → 10 ≤ n → decimal n ≡ decimal (n / 10) ++ ((48 + n % 10) ∷ [])
+unfolding decimal digitsWithin
+decimal-large n h = simp (le-ltb n 10 h) (ap (λ (d : List ℕ). d ++ ((48 + n % 10) ∷ [])) (enough n (suc (n / 10)) (n / 10) (omega arith) (omega arith)))
+
+pub decimal-small-length : (n : ℕ) → n < 10 → length (decimal n) ≡ 1
+decimal-small-length n h = rw (decimal-small n h)
+
+pub decimal-longer : (n : ℕ) → 10 ≤ n → length (decimal n) ≡ length (decimal (n / 10)) + 1
+decimal-longer n h = rw (decimal-large n h) (length-append (decimal (n / 10)) ((48 + n % 10) ∷ []))
+
+small-length : (k n : ℕ) → n < 10 → length (decimal n) ≤ suc k
+small-length k n h = rw (decimal-small n h) (omega arith)
+
+large-length : (k n : ℕ) → 10 ≤ n → length (decimal (n / 10)) ≤ k → length (decimal n) ≤ suc k
+large-length k n h more = rw (decimal-longer n h) (omega arith)
+
+-- a number below a power of ten has at most so many digits
+pub decimal-length : (k n : ℕ) → n < 10 ^ suc k → length (decimal n) ≤ suc k
+decimal-length zero n h = small-length zero n h
+decimal-length (suc k) n h =
+    byTest (ltb n 10)
+    (λ e. small-length (suc k) n (ltb-true _ _ e))
+    (λ e. large-length (suc k) n (ltb-false _ _ e) (decimal-length k (n / 10) (omega (arith, pow-suc 10 (suc k)))))
+
+pub decimal-64 : (n : ℕ) → n < 2 ^ 64 → length (decimal n) ≤ 20
+decimal-64 n h = decimal-length 19 n (omega arith)

@@ -1,0 +1,5 @@
+pub mod Items
+pub mod Turns
+pub mod Runs
+pub mod Opening
+pub mod Kept

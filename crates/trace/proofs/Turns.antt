@@ -1,0 +1,56 @@
+-- One event of a replay: its share of the text and of the table, from what the functions that are called for it ensure.
+-- Assumes nothing.
+use mathlib.Core.Path.{_≡_, refl, ap, sym, _∙_}
+use mathlib.Core.Bool.{Bool, true, false}
+use mathlib.Core.List.{List, []}
+use Prim.Native.Nat.{ℕ, _+_, _-_, _≤_, _<_}
+use native.Mathlib.Omega.{arith}
+use lib.ListN.{length, drop}
+use borrow.Author.Tests.{le-ltb, le-leb, lt-leb, lt-ltb}
+use Rattle.codes.specs.declared.Found.{Found}
+use Rattle.codes.specs.Numbers.{eventOf}
+use Rattle.group.specs.declared.Answer.{Answer}
+use Rattle.group.specs.Table.{stepIn}
+use Rattle.text.specs.declared.Line.{Line}
+use Rattle.text.specs.Lines.{line}
+use Rattle.text.specs.Writing.{Printed, inRoom, over, lineRoom}
+use Rattle.trace.specs.declared.Recorded.{Recorded}
+use Rattle.trace.specs.declared.Item.{Item}
+use Rattle.trace.specs.declared.Item.the-variants.{Event}
+use Rattle.trace.specs.declared.Running.{Running}
+use Rattle.trace.specs.declared.Turn.{Turn}
+use Rattle.trace.specs.Records.{octetsOf, item}
+use Rattle.trace.specs.Replay.{happens, lineOf, eventText}
+use Rattle.trace.specs.Feed.{Share, noTurn, noShare, turnOf, shareOf, share}
+
+-- a turn, the table and the room after it are a share's
+abbrev pub Lands : Turn → List ℕ → List ℕ → List ℕ → Share → Type 0
+Lands t table room room₀ h = (t ≡ turnOf h) × ((table ≡ h .table) × (room ≡ over (h .text) room₀))
+
+module _ (r : Running) (table : List ℕ) (e : Recorded) (found : Found) (a : Answer) (l : Line) (table' room room' : List ℕ) (n o : ℕ) where
+  pub eventLands : found ≡ eventOf (e .kind) (e .code) (e .detail)
+      → a ≡ stepIn (r .own .0) (r .far .0) table (e .circuit) found .answer
+      → table' ≡ stepIn (r .own .0) (r .far .0) table (e .circuit) found .table
+      → l ≡ lineOf (r .next) (e .circuit) a
+      → lineRoom ≤ length room
+      → Printed room (inRoom room (line l)) n room'
+      → o ≡ octetsOf (e .kind)
+      → Lands (record { taken = o; written = n }) table' room' room (shareOf (Event e) r table)
+  unfolding happens
+  eventLands f s t k h p q =
+      let x : l ≡ lineOf (r .next) (e .circuit) (stepIn (r .own .0) (r .far .0) table (e .circuit) (eventOf (e .kind) (e .code) (e .detail)) .answer) = k ∙ rw (s, f) in
+      let w : inRoom room (line l) ≡ eventText r table e = rw (le-ltb (length room) lineRoom h, x) in
+      (rw (p .count, w, q), (rw (t, f), rw (p .room, w)))
+
+module _ (r : Running) (table s room : List ℕ) where
+  pub noRoom : length room < lineRoom → Lands noTurn table room room (share r table s (length room))
+  unfolding share
+  noRoom h = rw (lt-leb lineRoom (length room) h) (refl, (refl, refl))
+
+  pub noOrdinal : r .next ≡ 18446744073709551615 → lineRoom ≤ length room → Lands noTurn table room room (share r table s (length room))
+  unfolding share
+  noOrdinal e h = rw (le-leb lineRoom (length room) h, e) (refl, (refl, refl))
+
+  pub mayTake : lineRoom ≤ length room → (r .next ≡ 18446744073709551615 → ⊥) → r .next < 18446744073709551616 → share r table s (length room) ≡ shareOf (item s) r table
+  unfolding share
+  mayTake h e f = rw (le-leb lineRoom (length room) h, lt-ltb (r .next) 18446744073709551615 (omega arith))

@@ -1,0 +1,5 @@
+pub mod Records
+pub mod Replay
+pub mod Feed
+pub mod Items
+pub mod Runs

@@ -1,0 +1,399 @@
+// A trace and its replay (document 01, "The trace and its replay"): the record at a place, and a replay that is fed the trace in parts and
+// writes its lines into lent room. The table holds the group's records, two octets a circuit, all zero before the first event.
+use circuit::Cic;
+use circuit::PointCode;
+use group::Answer;
+use text::Line;
+ghost use mathlib.Core.Path.{_≡_};
+ghost use mathlib.Core.List.{[]};
+ghost use Prim.Native.Nat.{_+_, _-_, _^_, _≤_, _<_, min};
+ghost use lib.ListN.{length, drop};
+ghost use Rattle.text.specs.Writing.{Printed, inRoom, over};
+ghost use Rattle.trace.specs.Records.{octetsOf, octet, two, detailOf, recorded, item, refusedStart};
+ghost use Rattle.trace.specs.Replay.{lineOf, onward, opened};
+ghost use Rattle.trace.specs.Feed.{noTurn, turnOf, shareOf, share, stageAt, answerOf, run, stays, begins, fed, isOver, tableOctets, lastLine, kept};
+
+// What an event's record says: kind 1 a signal and its heading, 2 a command, 3 a timer, whose detail is 0.
+pub struct Recorded {
+    pub kind: u8,
+    pub circuit: u16,
+    pub code: u8,
+    pub detail: u8,
+}
+
+// What stands at a place of a trace, behind the group: an event's record; an octet that starts none; a record's start and then the
+// end; nothing more.
+pub enum Item {
+    Event(Recorded),
+    NoEvent,
+    Short,
+    End,
+}
+
+// A replay behind its group: the two codes, how many circuits there are, and the next event's ordinal.
+pub struct Running {
+    pub own: PointCode,
+    pub far: PointCode,
+    pub circuits: u16,
+    pub next: u64,
+}
+
+// Where a replay stands: before its group, at a group that is refused, among the events, or where it was cut, with the next event's ordinal.
+pub enum Stage {
+    Start,
+    Bad,
+    Runs(Running),
+    Cut(u64),
+}
+
+// How many octets one event took and how many its line has; none where no event could be taken.
+pub struct Turn {
+    pub taken: usize,
+    pub written: usize,
+}
+
+// How many octets of the part were taken and how many of the room written, and where the replay stands then.
+pub struct Fed {
+    pub taken: usize,
+    pub written: usize,
+    pub stage: Stage,
+}
+
+// The octets of a record, its kind included, by its kind.
+pub fn octets_of(kind: u8) -> usize
+    ensures { λ r. ⌜ r ≡ octetsOf kind ⌝ }
+{
+    match kind {
+        0 => 7,
+        1 => 5,
+        2 => 5,
+        3 => 4,
+        _ => 0,
+    }
+}
+
+fn octet(s: &[u8], at: usize) -> u8
+    ensures { λ r. ⌜ r ≡ octet (now (s .entry)) at ⌝ }
+{
+    if at < s.len() { s[at] } else { 0 }
+}
+
+fn two(s: &[u8], at: usize) -> u16
+    requires { ⌜ at + 1 < 2 ^ 64 ⌝ }
+    ensures { λ r. ⌜ r ≡ two (now (s .entry)) at ⌝ }
+{
+    octet(s, at) as u16 + 256 * octet(s, at + 1) as u16
+}
+
+fn detail(kind: u8, octet: u8) -> u8
+    ensures { λ r. ⌜ r ≡ detailOf kind octet ⌝ }
+{
+    if kind == 3 { 0 } else { octet }
+}
+
+fn recorded_at(s: &[u8], at: usize) -> Recorded
+    requires { ⌜ at ≤ length (now s) ⌝ }
+    ensures { λ r. ⌜ r ≡ recorded (drop at (now (s .entry))) ⌝ }
+{
+    let kind = octet(s, at);
+    Recorded {
+        kind: kind,
+        circuit: two(s, at + 1),
+        code: octet(s, at + 3),
+        detail: detail(kind, octet(s, at + 4)),
+    }
+}
+
+// What stands at a place of a trace, behind the group.
+pub fn item_at(s: &[u8], at: usize) -> Item
+    ensures { λ r. ⌜ r ≡ item (drop at (now (s .entry))) ⌝ }
+{
+    if s.len() <= at {
+        return Item::End;
+    }
+    let kind = octet(s, at);
+    if circuit::either(kind == 0, 3 < kind) {
+        return Item::NoEvent;
+    }
+    if s.len() - at < octets_of(kind) {
+        return Item::Short;
+    }
+    Item::Event(recorded_at(s, at))
+}
+
+fn line_of(ordinal: u64, circuit: u16, a: Answer) -> Line
+    ensures { λ r. ⌜ r ≡ lineOf ordinal circuit a ⌝ }
+{
+    let sends = a.sends;
+    Line {
+        ordinal: ordinal,
+        circuit: circuit,
+        refusal: a.refusal,
+        state: a.state,
+        flags: a.flags,
+        ind: a.ind,
+        first: codes::first_heading(sends),
+        second: codes::second_heading(sends),
+    }
+}
+
+// An event happens in the group, and its line is written.
+fn event(r: Running, table: &mut [u8], e: Recorded, room: &mut [u8]) -> Turn
+    requires { ⌜ 132 ≤ length (now room) ⌝ }
+    ensures answers { λ t. ⌜ t ≡ turnOf (shareOf (Item.Event e) r (now (table .entry))) ⌝ }
+    ensures leaves { λ t. ⌜ now (table .exit) ≡ shareOf (Item.Event e) r (now (table .entry)) .table ⌝ }
+    ensures writes { λ t. ⌜ now (room .exit) ≡ over (shareOf (Item.Event e) r (now (table .entry)) .text) (now (room .entry)) ⌝ }
+{
+    let own = r.own;
+    let far = r.far;
+    let found = codes::event_of(e.kind as u32, e.code as u32, e.detail as u32);
+    let a = group::step(own, far, table, Cic(e.circuit as u32), found);
+    let written = text::event_line(room, line_of(r.next, e.circuit, a));
+    Turn {
+        taken: octets_of(e.kind),
+        written: written,
+    }
+}
+
+fn no_turn() -> Turn
+    ensures { λ t. ⌜ t ≡ noTurn ⌝ }
+{
+    Turn {
+        taken: 0,
+        written: 0,
+    }
+}
+
+fn one_item(i: Item, r: Running, table: &mut [u8], room: &mut [u8]) -> Turn
+    requires { ⌜ 132 ≤ length (now room) ⌝ }
+    ensures answers { λ t. ⌜ t ≡ turnOf (shareOf i r (now (table .entry))) ⌝ }
+    ensures leaves { λ t. ⌜ now (table .exit) ≡ shareOf i r (now (table .entry)) .table ⌝ }
+    ensures writes { λ t. ⌜ now (room .exit) ≡ over (shareOf i r (now (table .entry)) .text) (now (room .entry)) ⌝ }
+{
+    match i {
+        Item::Event(e) => event(r, table, e, room),
+        Item::NoEvent => no_turn(),
+        Item::Short => no_turn(),
+        Item::End => no_turn(),
+    }
+}
+
+// The event at a place of the part, where one stands there whole, the room has a line's octets and there is a further ordinal.
+fn one_event(r: Running, table: &mut [u8], part: &[u8], at: usize, room: &mut [u8]) -> Turn
+    ensures answers { λ t. ⌜ t ≡ turnOf (share r (now (table .entry)) (drop at (now (part .entry))) (length (now (room .entry)))) ⌝ }
+    ensures leaves { λ t. ⌜ now (table .exit) ≡ share r (now (table .entry)) (drop at (now (part .entry))) (length (now (room .entry))) .table ⌝ }
+    ensures writes { λ t. ⌜ now (room .exit) ≡ over (share r (now (table .entry)) (drop at (now (part .entry))) (length (now (room .entry))) .text) (now (room .entry)) ⌝ }
+{
+    if room.len() < text::LINE {
+        return no_turn();
+    }
+    if r.next == 18446744073709551615 {
+        return no_turn();
+    }
+    one_item(item_at(part, at), r, table, room)
+}
+
+fn onward(r: Running) -> Running
+    requires { ⌜ r .next < 18446744073709551615 ⌝ }
+    ensures { λ q. ⌜ q ≡ onward r ⌝ }
+{
+    let own = r.own;
+    let far = r.far;
+    Running {
+        own: own,
+        far: far,
+        circuits: r.circuits,
+        next: r.next + 1,
+    }
+}
+
+fn stage_at(i: Item, r: Running) -> Stage
+    ensures { λ q. ⌜ q ≡ stageAt i r ⌝ }
+{
+    match i {
+        Item::Event(_) => Stage::Runs(r),
+        Item::NoEvent => Stage::Cut(r.next),
+        Item::Short => Stage::Runs(r),
+        Item::End => Stage::Runs(r),
+    }
+}
+
+// Event after event, until none can be taken.
+fn run(r: Running, table: &mut [u8], part: &[u8], room: &mut [u8]) -> Fed
+    ensures answers { λ a. ⌜ a ≡ answerOf (run r (now (table .entry)) (now (part .entry)) (length (now (room .entry)))) ⌝ }
+    ensures leaves { λ a. ⌜ now (table .exit) ≡ run r (now (table .entry)) (now (part .entry)) (length (now (room .entry))) .table ⌝ }
+    ensures writes { λ a. ⌜ now (room .exit) ≡ over (run r (now (table .entry)) (now (part .entry)) (length (now (room .entry))) .text) (now (room .entry)) ⌝ }
+    ensures within { λ a. ⌜ (a .taken ≤ length (now (part .entry))) × (a .written ≤ length (now (room .entry))) ⌝ }
+{
+    let mut here = r;
+    let mut at = 0;
+    let mut out = 0;
+    loop {
+        let t = one_event(here, table, part, at, &mut room[out..]);
+        if t.taken == 0 {
+            break;
+        }
+        at += t.taken;
+        out += t.written;
+        here = onward(here);
+    }
+    Fed {
+        taken: at,
+        written: out,
+        stage: stage_at(item_at(part, at), here),
+    }
+}
+
+fn stay(stage: Stage) -> Fed
+    ensures { λ a. ⌜ a ≡ answerOf (stays stage []) ⌝ }
+{
+    Fed {
+        taken: 0,
+        written: 0,
+        stage: stage,
+    }
+}
+
+fn refused_start(s: &[u8]) -> bool
+    ensures { λ r. ⌜ r ≡ refusedStart (now (s .entry)) ⌝ }
+{
+    let own = PointCode(two(s, 1) as u32);
+    let far = PointCode(two(s, 3) as u32);
+    let circuits = two(s, 5) as usize;
+    circuit::either(octet(s, 0) != 0, circuit::bad_group(own, far, circuits))
+}
+
+fn opened(s: &[u8]) -> Running
+    ensures { λ r. ⌜ r ≡ opened (now (s .entry)) ⌝ }
+{
+    Running {
+        own: PointCode(two(s, 1) as u32),
+        far: PointCode(two(s, 3) as u32),
+        circuits: two(s, 5),
+        next: 1,
+    }
+}
+
+// The group, once its record is there whole.
+fn begin(part: &[u8], room: &mut [u8]) -> Fed
+    ensures answers { λ a. ⌜ a ≡ answerOf (begins [] (now (part .entry)) (length (now (room .entry)))) ⌝ }
+    ensures writes { λ a. ⌜ now (room .exit) ≡ over (begins [] (now (part .entry)) (length (now (room .entry))) .text) (now (room .entry)) ⌝ }
+    ensures within { λ a. ⌜ (a .taken ≤ length (now (part .entry))) × (a .written ≤ length (now (room .entry))) ⌝ }
+{
+    let octets = octets_of(0);
+    if part.len() < octets {
+        return stay(Stage::Start);
+    }
+    if refused_start(part) {
+        return stay(Stage::Bad);
+    }
+    if room.len() < text::LINE {
+        return stay(Stage::Start);
+    }
+    let r = opened(part);
+    let own = r.own;
+    let far = r.far;
+    let written = text::group_line(room, own.0, far.0, r.circuits);
+    Fed {
+        taken: octets,
+        written: written,
+        stage: Stage::Runs(r),
+    }
+}
+
+// A replay goes on with the next part of its trace, which starts at the first octet that was not taken yet.
+pub fn feed(stage: Stage, table: &mut [u8], part: &[u8], room: &mut [u8]) -> Fed
+    ensures answers { λ a. ⌜ a ≡ answerOf (fed stage (now (table .entry)) (now (part .entry)) (length (now (room .entry)))) ⌝ }
+    ensures leaves { λ a. ⌜ now (table .exit) ≡ fed stage (now (table .entry)) (now (part .entry)) (length (now (room .entry))) .table ⌝ }
+    ensures writes { λ a. ⌜ now (room .exit) ≡ over (fed stage (now (table .entry)) (now (part .entry)) (length (now (room .entry))) .text) (now (room .entry)) ⌝ }
+    ensures within { λ a. ⌜ (a .taken ≤ length (now (part .entry))) × (a .written ≤ length (now (room .entry))) ⌝ }
+{
+    match stage {
+        Stage::Start => begin(part, room),
+        Stage::Bad => stay(Stage::Bad),
+        Stage::Runs(r) => run(r, table, part, room),
+        Stage::Cut(next) => stay(Stage::Cut(next)),
+    }
+}
+
+fn before(next: u64) -> u64
+    ensures { λ r. ⌜ r ≡ next - 1 ⌝ }
+{
+    if next == 0 { 0 } else { next - 1 }
+}
+
+fn last_of(r: Running, rest: &[u8], room: &mut [u8]) -> usize
+    ensures { λ n. ⌜ Printed (now (room .entry)) (inRoom (now (room .entry)) (lastLine (Stage.Runs r) (now (rest .entry)))) n (now (room .exit)) ⌝ }
+    ensures { λ n. ⌜ n ≤ length (now (room .entry)) ⌝ }
+{
+    if rest.len() == 0 {
+        return text::end_line(room, before(r.next));
+    }
+    text::cut_line(room, r.next)
+}
+
+// The last line, where the trace has ended and `rest` is what was not taken of it, or where the replay is over.
+pub fn finish(stage: Stage, rest: &[u8], room: &mut [u8]) -> usize
+    ensures { λ n. ⌜ Printed (now (room .entry)) (inRoom (now (room .entry)) (lastLine stage (now (rest .entry)))) n (now (room .exit)) ⌝ }
+    ensures { λ n. ⌜ n ≤ length (now (room .entry)) ⌝ }
+{
+    match stage {
+        Stage::Start => text::bad_group_line(room),
+        Stage::Bad => text::bad_group_line(room),
+        Stage::Runs(r) => last_of(r, rest, room),
+        Stage::Cut(next) => text::cut_line(room, next),
+    }
+}
+
+// Whether nothing more of the trace is to be read.
+pub fn is_over(stage: Stage) -> bool
+    ensures { λ r. ⌜ r ≡ isOver stage ⌝ }
+{
+    match stage {
+        Stage::Start => false,
+        Stage::Bad => true,
+        Stage::Runs(_) => false,
+        Stage::Cut(_) => true,
+    }
+}
+
+fn at_most(n: usize, most: usize) -> usize
+    ensures { λ r. ⌜ r ≡ min n most ⌝ }
+    ensures { λ r. ⌜ r ≤ most ⌝ }
+{
+    if n < most { n } else { most }
+}
+
+// The octets of the table that the group needs: at most 8,192.
+pub fn table_octets(stage: Stage) -> usize
+    ensures { λ r. ⌜ r ≡ tableOctets stage ⌝ }
+    ensures { λ r. ⌜ r ≤ 8192 ⌝ }
+{
+    match stage {
+        Stage::Start => 0,
+        Stage::Bad => 0,
+        Stage::Runs(r) => 2 * at_most(r.circuits as usize, 4096),
+        Stage::Cut(_) => 0,
+    }
+}
+
+// Moves what lies from `at` up to `have` to the start of a buffer, and answers how many octets that is: none where the two are no places of it.
+pub fn keep(buffer: &mut [u8], at: usize, have: usize) -> usize
+    ensures answers { λ r. ⌜ r ≡ length (kept (now (buffer .entry)) at have) ⌝ }
+    ensures moves { λ r. ⌜ now (buffer .exit) ≡ over (kept (now (buffer .entry)) at have) (now (buffer .entry)) ⌝ }
+    ensures within { λ r. ⌜ r ≤ length (now (buffer .entry)) ⌝ }
+{
+    if buffer.len() < have {
+        return 0;
+    }
+    if have < at {
+        return 0;
+    }
+    let n = have - at;
+    let mut i = 0;
+    while i < n {
+        buffer[i] = buffer[at + i];
+        i += 1;
+    }
+    n
+}
