@@ -1,0 +1,4 @@
+pub mod Numbers
+pub mod Groups
+pub mod Said
+pub mod ReadBack
