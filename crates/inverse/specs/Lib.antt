@@ -2,3 +2,4 @@ pub mod Numbers
 pub mod Groups
 pub mod Said
 pub mod ReadBack
+pub mod WriteBack
