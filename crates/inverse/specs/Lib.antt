@@ -3,3 +3,4 @@ pub mod Groups
 pub mod Said
 pub mod ReadBack
 pub mod WriteBack
+pub mod Laws
