@@ -31,7 +31,7 @@ module _ {n₀ n₁ n₂ n₃ n₄ n₅ : ℕ} (p₀ : 0 < n₀) (p₁ : 0 < n�
   clear false false false false false true e = absurd (omega arith)
   clear false false false false false false e = record { t₀ = refl; t₁ = refl; t₂ = refl; t₃ = refl; t₄ = refl; t₅ = refl }
 
-none : (a b c d : Bool) → (a || b || c || d) ≡ false → (a ≡ false) × (b ≡ false) × (c ≡ false) × (d ≡ false)
+pub none : (a b c d : Bool) → (a || b || c || d) ≡ false → (a ≡ false) × (b ≡ false) × (c ≡ false) × (d ≡ false)
 none true b c d e = absurd (subst T e tt)
 none false true c d e = absurd (subst T e tt)
 none false false true d e = absurd (subst T e tt)
@@ -45,9 +45,9 @@ inRange own far records e =
     let b : far ≤ 16383 = ltb-false _ _ (n .1) in
     (omega arith, omega arith)
 
--- and is one from the other end too
-pub turned : (own far records : ℕ) → badGroup own far records ≡ false → badGroup far own records ≡ false
-turned own far records e = all (badCode far) (badCode own) (eqb far own) (eqb records 0 || ltb 4096 records) (n .1) (n .0) other (n .3)
+-- and is one from the other end too, with any number of records that a group may have
+pub turned : (own far records theirs : ℕ) → badGroup own far records ≡ false → (eqb theirs 0 || ltb 4096 theirs) ≡ false → badGroup far own theirs ≡ false
+turned own far records theirs e m = all (badCode far) (badCode own) (eqb far own) (eqb theirs 0 || ltb 4096 theirs) (n .1) (n .0) other m
   where
     n : (badCode own ≡ false) × (badCode far ≡ false) × (eqb own far ≡ false) × ((eqb records 0 || ltb 4096 records) ≡ false)
     n = none (badCode own) (badCode far) (eqb own far) (eqb records 0 || ltb 4096 records) e
@@ -57,3 +57,7 @@ turned own far records e = all (badCode far) (badCode own) (eqb far own) (eqb re
 
     all : (a b c d : Bool) → a ≡ false → b ≡ false → c ≡ false → d ≡ false → (a || b || c || d) ≡ false
     all a b c d p q r s = rw (p, q, r, s)
+
+-- its number of records is one that a group may have
+pub recordsFit : (own far records : ℕ) → badGroup own far records ≡ false → (eqb records 0 || ltb 4096 records) ≡ false
+recordsFit own far records e = none (badCode own) (badCode far) (eqb own far) (eqb records 0 || ltb 4096 records) e .3

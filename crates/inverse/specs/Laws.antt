@@ -24,6 +24,7 @@ use Rattle.link.proofs.Stores.{length-pairs}
 use Rattle.inverse.specs.Numbers.{Octets}
 use Rattle.inverse.specs.Said.{fieldsSaid, saidOf}
 use Rattle.inverse.specs.ReadBack.{octetsRead}
+use Rattle.inverse.specs.Different.{sameMessage}
 use Rattle.inverse.specs.WriteBack.{cleared, octetsAgain}
 
 -- no refusal means that no test held
@@ -52,6 +53,13 @@ module _ (own far records : ℕ) (m : Said) (buffer : List ℕ) (ok : writing ow
 pub writingBack : (own far records : ℕ) (xs : List ℕ) → Octets xs → fieldsOf own far records xs .refusal ≡ 0
     → octetsOf far own (saidOf (fieldsOf own far records xs)) ≡ cleared xs
 writingBack = octetsAgain
+
+-- Two different messages are never written as the same octets.
+pub different : (own far records records' : ℕ) (m m' : Said) (buffer buffer' : List ℕ)
+    → writing own far records m buffer .answer .refusal ≡ 0 → writing own far records' m' buffer' .answer .refusal ≡ 0
+    → (m ≡ m' → ⊥) → octetsOf own far m ≡ octetsOf own far m' → ⊥
+different own far records records' m m' buffer buffer' ok ok' d e =
+    d (sameMessage own far records records' m m' (length buffer) (length buffer') (untested own far records m buffer ok) (untested own far records' m' buffer' ok') e)
 
 -- Every length that the writer can answer fits the heading: 6, an ACM 7, an IAM 9 and half the count rounded up.
 abbrev pub lengthOf : Said → ℕ

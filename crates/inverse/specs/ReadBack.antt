@@ -182,3 +182,14 @@ module _ (own far records : ℕ) (m : Said) (room : ℕ) (ok : firstOf (writeRul
       byIam false e =
           ap (λ (b : Bool). fieldsOf far own theirs (cond b i (cond (isAcm (m .heading)) a p))) e ∙ byAcm e (isAcm (m .heading)) refl
           ∙ sym (ap (λ (b : Bool). cond b (iamFields (m .cic) (m .category) (m .indicators) (m .address)) (plainFields (m .cic) (m .heading) (m .acm))) e)
+
+-- what the writer takes: a group, a circuit number, fields
+pub taking : (own far records : ℕ) (m : Said) (room : ℕ) → firstOf (writeRules own far records m room) ≡ 0
+    → (badGroup own far records ≡ false) × (m .cic < 4096) × (tooLarge m ≡ false)
+taking own far records m room ok =
+    let t =
+    clear (lit< tt) (lit< tt) (lit< tt) (lit< tt) (lit< tt) (lit< tt)
+    (badGroup own far records) (ltb 4095 (m .cic)) (not (listed (m .heading))) (tooLarge m) (isIam (m .heading) && badAddress (m .address)) (ltb room (length (octetsOf own far m))) ok
+    in
+    let h : m .cic ≤ 4095 = ltb-false _ _ (t .t₁) in
+    (t .t₀, omega arith, t .t₃)
