@@ -25,7 +25,7 @@ use Rattle.inverse.specs.Numbers.{Octets}
 use Rattle.inverse.specs.Said.{fieldsSaid, saidOf}
 use Rattle.inverse.specs.ReadBack.{octetsRead}
 use Rattle.inverse.specs.Different.{sameMessage}
-use Rattle.inverse.specs.WriteBack.{cleared, octetsAgain}
+use Rattle.inverse.specs.WriteBack.{cleared, writtenAgain}
 
 -- no refusal means that no test held
 refusalOf : (n : ℕ) (xs buffer : List ℕ) → putting n xs buffer .answer .refusal ≡ n
@@ -49,10 +49,11 @@ module _ (own far records : ℕ) (m : Said) (buffer : List ℕ) (ok : writing ow
       → fieldsOf far own theirs (take (writing own far records m buffer .answer .length) (writing own far records m buffer .buffer)) ≡ fieldsSaid m
   readingBack theirs group has = ap (fieldsOf far own theirs) sent ∙ octetsRead own far records m (length buffer) untested theirs group has
 
--- Writing what was read, in the sender's group, gives the octets with spare bits and filler cleared.
+-- Writing what was read, in the sender's group, gives the octets with spare bits and filler cleared, wherever there is room for them.
 pub writingBack : (own far records : ℕ) (xs : List ℕ) → Octets xs → fieldsOf own far records xs .refusal ≡ 0
-    → octetsOf far own (saidOf (fieldsOf own far records xs)) ≡ cleared xs
-writingBack = octetsAgain
+    → (buffer : List ℕ) → length xs ≤ length buffer
+    → writing far own records (saidOf (fieldsOf own far records xs)) buffer ≡ record { answer = record { refusal = 0; length = length (cleared xs) }; buffer = over (cleared xs) buffer }
+writingBack = writtenAgain
 
 -- Two different messages are never written as the same octets.
 pub different : (own far records records' : ℕ) (m m' : Said) (buffer buffer' : List ℕ)

@@ -1,14 +1,16 @@
 -- Numbers and address signals in octets: what is put in is taken out again, and the other way round.
 -- Assumes nothing.
 use mathlib.Core.Path.{_≡_, refl, sym, ap, _∙_, subst}
+use mathlib.Core.Bool.{false}
 use mathlib.Core.List.{List, [], _∷_, _++_}
 use Prim.Native.Nat.{ℕ, zero, suc, _+_, _*_, _-_, _/_, _%_, _^_, _<_, _≤_}
 use native.Mathlib.Nat.{pow-suc, div-lt-iff-lt-mul}
 use native.Mathlib.Omega.{arith}
 use lib.Dec.{lit<}
-use lib.ListN.{length, getD, take, drop}
-use lib.Seq.{take-nil}
-use Rattle.link.specs.Octets.{lowFirst, numberOf, pairs, halves}
+use lib.ListN.{length, getD, take, drop, length-drop}
+use borrow.Author.Tests.{le-ltb}
+use lib.Seq.{getD-drop}
+use Rattle.link.specs.Octets.{lowFirst, numberOf, pairs, halves, aboveFifteen}
 
 -- a list of octets
 abbrev pub Octets : List ℕ → Type 0
@@ -65,3 +67,17 @@ pairsBack (suc (suc n)) [] = refl
 pairsBack (suc (suc n)) (o ∷ os) =
     let e : o % 16 + 16 * (o / 16) ≡ o = omega arith in
     rw e (ap (λ (r : List ℕ). o ∷ r) (pairsBack n os))
+
+-- the signals that octets hold are codes of four bits
+pub halvesFit : (n : ℕ) (os : List ℕ) → Octets os → aboveFifteen (take n (halves os)) ≡ false
+halvesFit zero os h = refl
+halvesFit (suc zero) [] h = refl
+halvesFit (suc zero) (o ∷ os) h = rw (le-ltb 15 (o % 16) (omega arith))
+halvesFit (suc (suc n)) [] h = refl
+halvesFit (suc (suc n)) (o ∷ os) h =
+    let l : o < 256 = h 0 (omega arith) in
+    rw (le-ltb 15 (o % 16) (omega arith), le-ltb 15 (o / 16) (omega arith)) (halvesFit n os (λ i m. h (suc i) (omega arith)))
+
+-- a part of some octets is octets
+pub laterOctets : (k : ℕ) (xs : List ℕ) → Octets xs → Octets (drop k xs)
+laterOctets k xs h i m = rw (getD-drop k xs i 0) (h (k + i) (omega (arith, length-drop k xs)))
