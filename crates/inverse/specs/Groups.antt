@@ -1,0 +1,63 @@
+-- What the refusals leave where none is given: the tests of a group and of a message, one by one.
+-- Assumes nothing.
+use mathlib.Core.Path.{_≡_, refl, sym, ap, _∙_, subst}
+use mathlib.Core.Bool.{Bool, true, false, _||_}
+use mathlib.Core.List.{List, [], _∷_}
+use Prim.Native.Nat.{ℕ, _<_, _≤_}
+use native.Mathlib.Omega.{arith}
+use borrow.Author.Tests.{ltb-false, le-ltb, eqb-false, ne-eqb}
+use lib.Dec.{T, eqb, ltb}
+use Rattle.circuit.specs.Groups.{badCode, badGroup}
+use Rattle.link.specs.Refusals.{Rule, refuse, firstOf}
+
+-- six tests, none of which holds
+pub record Clear (b₀ b₁ b₂ b₃ b₄ b₅ : Bool) : Type 0 where
+  pub t₀ : b₀ ≡ false
+  pub t₁ : b₁ ≡ false
+  pub t₂ : b₂ ≡ false
+  pub t₃ : b₃ ≡ false
+  pub t₄ : b₄ ≡ false
+  pub t₅ : b₅ ≡ false
+
+module _ {n₀ n₁ n₂ n₃ n₄ n₅ : ℕ} (p₀ : 0 < n₀) (p₁ : 0 < n₁) (p₂ : 0 < n₂) (p₃ : 0 < n₃) (p₄ : 0 < n₄) (p₅ : 0 < n₅) where
+  pub clear : (b₀ b₁ b₂ b₃ b₄ b₅ : Bool)
+      → firstOf (refuse n₀ b₀ ∷ refuse n₁ b₁ ∷ refuse n₂ b₂ ∷ refuse n₃ b₃ ∷ refuse n₄ b₄ ∷ refuse n₅ b₅ ∷ []) ≡ 0
+      → Clear b₀ b₁ b₂ b₃ b₄ b₅
+  clear true b₁ b₂ b₃ b₄ b₅ e = absurd (omega arith)
+  clear false true b₂ b₃ b₄ b₅ e = absurd (omega arith)
+  clear false false true b₃ b₄ b₅ e = absurd (omega arith)
+  clear false false false true b₄ b₅ e = absurd (omega arith)
+  clear false false false false true b₅ e = absurd (omega arith)
+  clear false false false false false true e = absurd (omega arith)
+  clear false false false false false false e = record { t₀ = refl; t₁ = refl; t₂ = refl; t₃ = refl; t₄ = refl; t₅ = refl }
+
+pub none : (a b c d : Bool) → (a || b || c || d) ≡ false → (a ≡ false) × (b ≡ false) × (c ≡ false) × (d ≡ false)
+none true b c d e = absurd (subst T e tt)
+none false true c d e = absurd (subst T e tt)
+none false false true d e = absurd (subst T e tt)
+none false false false d e = (refl, refl, refl, e)
+
+-- a group that is taken has two codes in range
+pub inRange : (own far records : ℕ) → badGroup own far records ≡ false → (own < 16384) × (far < 16384)
+inRange own far records e =
+    let n = none (badCode own) (badCode far) (eqb own far) (eqb records 0 || ltb 4096 records) e in
+    let a : own ≤ 16383 = ltb-false _ _ (n .0) in
+    let b : far ≤ 16383 = ltb-false _ _ (n .1) in
+    (omega arith, omega arith)
+
+-- and is one from the other end too, with any number of records that a group may have
+pub turned : (own far records theirs : ℕ) → badGroup own far records ≡ false → (eqb theirs 0 || ltb 4096 theirs) ≡ false → badGroup far own theirs ≡ false
+turned own far records theirs e m = all (badCode far) (badCode own) (eqb far own) (eqb theirs 0 || ltb 4096 theirs) (n .1) (n .0) other m
+  where
+    n : (badCode own ≡ false) × (badCode far ≡ false) × (eqb own far ≡ false) × ((eqb records 0 || ltb 4096 records) ≡ false)
+    n = none (badCode own) (badCode far) (eqb own far) (eqb records 0 || ltb 4096 records) e
+
+    other : eqb far own ≡ false
+    other = ne-eqb far own (λ p. eqb-false own far (n .2) (sym p))
+
+    all : (a b c d : Bool) → a ≡ false → b ≡ false → c ≡ false → d ≡ false → (a || b || c || d) ≡ false
+    all a b c d p q r s = rw (p, q, r, s)
+
+-- its number of records is one that a group may have
+pub recordsFit : (own far records : ℕ) → badGroup own far records ≡ false → (eqb records 0 || ltb 4096 records) ≡ false
+recordsFit own far records e = none (badCode own) (badCode far) (eqb own far) (eqb records 0 || ltb 4096 records) e .3

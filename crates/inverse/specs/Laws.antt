@@ -1,0 +1,137 @@
+-- The laws of messages on the link, over the definitions that the contracts of `link` cite.
+-- Assumes nothing.
+use mathlib.Core.Path.{_≡_, refl, sym, ap, _∙_, subst}
+use mathlib.Core.Bool.{Bool, true, false, cond}
+use mathlib.Core.List.{List, [], _∷_, _++_, map}
+use mathlib.Core.Logic.{_↔_, _⊎_, inl, inr, ⊎-elim}
+use Prim.Native.Nat.{ℕ, zero, suc, _+_, _<_, _≤_}
+use native.Mathlib.Omega.{arith}
+use borrow.Author.Tests.{ltb-false, eqb-true}
+use lib.Dec.{T, eqb, ltb, leb}
+use lib.ListN.{length, take, drop}
+use lib.Seq.{take-append-seam}
+use Rattle.circuit.specs.Groups.{badGroup}
+use Rattle.link.specs.declared.Fields.{Fields}
+use Rattle.link.specs.declared.Reading.{Reading}
+use Rattle.link.specs.Refusals.{Rule, refuse, firstOf}
+use Rattle.link.specs.Octets.{over}
+use Rattle.link.specs.Messages.{isIam, isAcm, fixedLength, half}
+use Rattle.link.specs.declared.Written.{Written}
+use Rattle.link.specs.Reading.{readRules, fieldsOf, reading}
+use Rattle.link.specs.Writing.{Said, said, labelOf, octetsOf, writeRules, putting, Outcome, writing, iamOctets, acmOctets, plainOctets}
+use Rattle.link.specs.Entries.{Told, readInto, writeFrom}
+use Rattle.link.proofs.Stores.{length-pairs}
+use Rattle.inverse.specs.Numbers.{Octets}
+use Rattle.inverse.specs.Said.{fieldsSaid, saidOf}
+use Rattle.inverse.specs.ReadBack.{octetsRead}
+use Rattle.inverse.specs.Different.{sameMessage}
+use Rattle.inverse.specs.WriteBack.{cleared, writtenAgain}
+
+-- no refusal means that no test held
+refusalOf : (n : ℕ) (xs buffer : List ℕ) → putting n xs buffer .answer .refusal ≡ n
+refusalOf zero xs buffer = refl
+refusalOf (suc n) xs buffer = refl
+
+module _ (own far records : ℕ) (m : Said) (buffer : List ℕ) (ok : writing own far records m buffer .answer .refusal ≡ 0) where
+  pub untested : firstOf (writeRules own far records m (length buffer)) ≡ 0
+  unfolding writing
+  untested = sym (refusalOf (firstOf (writeRules own far records m (length buffer))) (octetsOf own far m) buffer) ∙ ok
+
+  pub written : writing own far records m buffer ≡ putting 0 (octetsOf own far m) buffer
+  unfolding writing
+  written = ap (λ (n : ℕ). putting n (octetsOf own far m) buffer) untested
+
+  sent : take (writing own far records m buffer .answer .length) (writing own far records m buffer .buffer) ≡ octetsOf own far m
+  sent = ap (λ (o : Outcome). take (o .answer .length) (o .buffer)) written ∙ take-append-seam (octetsOf own far m) (drop (length (octetsOf own far m)) buffer)
+
+  -- Reading what was written, at the end addressed and in a group that has the circuit, gives the message back.
+  pub readingBack : (theirs : ℕ) → badGroup far own theirs ≡ false → m .cic < theirs
+      → fieldsOf far own theirs (take (writing own far records m buffer .answer .length) (writing own far records m buffer .buffer)) ≡ fieldsSaid m
+  readingBack theirs group has = ap (fieldsOf far own theirs) sent ∙ octetsRead own far records m (length buffer) untested theirs group has
+
+-- Writing what was read, in the sender's group, gives the octets with spare bits and filler cleared, wherever there is room for them.
+pub writingBack : (own far records : ℕ) (xs : List ℕ) → Octets xs → fieldsOf own far records xs .refusal ≡ 0
+    → (buffer : List ℕ) → length xs ≤ length buffer
+    → writing far own records (saidOf (fieldsOf own far records xs)) buffer ≡ record { answer = record { refusal = 0; length = length (cleared xs) }; buffer = over (cleared xs) buffer }
+writingBack = writtenAgain
+
+-- Two different messages are never written as the same octets.
+pub different : (own far records records' : ℕ) (m m' : Said) (buffer buffer' : List ℕ)
+    → writing own far records m buffer .answer .refusal ≡ 0 → writing own far records' m' buffer' .answer .refusal ≡ 0
+    → (m ≡ m' → ⊥) → octetsOf own far m ≡ octetsOf own far m' → ⊥
+different own far records records' m m' buffer buffer' ok ok' d e =
+    d (sameMessage own far records records' m m' (length buffer) (length buffer') (untested own far records m buffer ok) (untested own far records' m' buffer' ok') e)
+
+-- Every length that the writer can answer fits the heading: 6, an ACM 7, an IAM 9 and half the count rounded up.
+abbrev pub lengthOf : Said → ℕ
+lengthOf m = fixedLength (m .heading) + cond (isIam (m .heading)) (half (length (m .address))) 0
+
+octetsLong : (own far : ℕ) (m : Said) → length (octetsOf own far m) ≡ lengthOf m
+unfolding octetsOf
+octetsLong own far m = go (isIam (m .heading)) (isAcm (m .heading))
+  where
+    go : (a b : Bool)
+        → length (cond a (iamOctets (labelOf own far (m .cic)) (m .category) (m .indicators) (m .address)) (cond b (acmOctets (labelOf own far (m .cic)) (m .acm)) (plainOctets (labelOf own far (m .cic)) (m .heading))))
+        ≡ cond a 9 (cond b 7 6) + cond a (half (length (m .address))) 0
+    go true b = let e = length-pairs (m .address) in omega arith
+    go false true = refl
+    go false false = refl
+
+pub lengthFits : (own far records : ℕ) (m : Said) (buffer : List ℕ) → writing own far records m buffer .answer .refusal ≡ 0
+    → writing own far records m buffer .answer .length ≡ lengthOf m
+lengthFits own far records m buffer ok = ap (λ (o : Outcome). o .answer .length) (written own far records m buffer ok) ∙ octetsLong own far m
+
+-- A refusal's number is given exactly when a test with this number holds and none before it does.
+unfoldable pub Given : ℕ → List Rule → Type 0
+Given n [] = ⊥
+Given n (refuse k holds ∷ rules) = ((holds ≡ true) × (k ≡ n)) ⊎ ((holds ≡ false) × Given n rules)
+
+pub exactly : (rules : List Rule) (n : ℕ) → (firstOf rules ≡ suc n) ↔ Given (suc n) rules
+unfolding Given
+exactly [] n = (λ e. omega arith, λ g. absurd g)
+exactly (refuse k true ∷ rules) n = (λ e. inl (refl, e), λ g. ⊎-elim (λ h. h .1) (λ h. absurd (subst T (h .0) tt)) g)
+exactly (refuse k false ∷ rules) n = (λ e. inr (refl, exactly rules n .0 e), λ g. ⊎-elim (λ h. absurd (subst T (sym (h .0)) tt)) (λ h. exactly rules n .1 (h .1)) g)
+
+pub readRefusals : (own far records : ℕ) (xs : List ℕ) (n : ℕ) → (firstOf (readRules own far records xs) ≡ suc n) ↔ Given (suc n) (readRules own far records xs)
+readRefusals own far records xs = exactly (readRules own far records xs)
+
+pub writeRefusals : (own far records : ℕ) (m : Said) (room n : ℕ) → (firstOf (writeRules own far records m room) ≡ suc n) ↔ Given (suc n) (writeRules own far records m room)
+writeRefusals own far records m room = exactly (writeRules own far records m room)
+
+-- a case of the paper: the codes of the sender, a message, and its octets
+pub record Case : Type 0 where
+  pub own : ℕ
+  pub far : ℕ
+  pub says : Said
+  pub octets : List ℕ
+
+-- P10, and the two messages that are longer
+unfoldable pub cases : List Case
+cases =
+    record { own = 2; far = 1; says = said 3 0x46 0 0 0 []; octets = 0x01 ∷ 0x80 ∷ 0x00 ∷ 0x30 ∷ 0x00 ∷ 0x46 ∷ [] }
+    ∷ record { own = 2; far = 1; says = said 3 0x14 5 0 0 []; octets = 0x01 ∷ 0x80 ∷ 0x00 ∷ 0x30 ∷ 0x00 ∷ 0x14 ∷ 0x05 ∷ [] }
+    ∷ record { own = 2; far = 1; says = said 3 0x11 0 10 3 (1 ∷ 2 ∷ 15 ∷ []); octets = 0x01 ∷ 0x80 ∷ 0x00 ∷ 0x30 ∷ 0x00 ∷ 0x11 ∷ 0x0a ∷ 0x03 ∷ 0x30 ∷ 0x21 ∷ 0x0f ∷ [] }
+    ∷ []
+
+pub casesHold : map (λ (c : Case). octetsOf (c .own) (c .far) (c .says)) cases ≡ map (λ (c : Case). c .octets) cases
+unfolding cases octetsOf
+casesHold = refl
+
+-- Any two answers that a contract allows are equal, and so are any two buffers after it.
+pub readOnce : (own far records : ℕ) (xs : List ℕ) {r s : Reading} → r ≡ reading own far records xs → s ≡ reading own far records xs → r ≡ s
+readOnce own far records xs p q = p ∙ sym q
+
+pub writeOnce : (own far records : ℕ) (m : Said) (buffer : List ℕ) {r s : Written} {a b : List ℕ}
+    → r ≡ writing own far records m buffer .answer → s ≡ writing own far records m buffer .answer
+    → a ≡ writing own far records m buffer .buffer → b ≡ writing own far records m buffer .buffer → (r ≡ s) × (a ≡ b)
+writeOnce own far records m buffer p q v w = (p ∙ sym q, v ∙ sym w)
+
+pub readIntoOnce : (own far count : ℕ) (xs buffer : List ℕ) {r s : ℕ} {a b : List ℕ}
+    → r ≡ readInto own far count xs buffer .answer → s ≡ readInto own far count xs buffer .answer
+    → a ≡ readInto own far count xs buffer .buffer → b ≡ readInto own far count xs buffer .buffer → (r ≡ s) × (a ≡ b)
+readIntoOnce own far count xs buffer p q v w = (p ∙ sym q, v ∙ sym w)
+
+pub writeFromOnce : (own far count : ℕ) (m : Said) (buffer : List ℕ) {r s : ℕ} {a b : List ℕ}
+    → r ≡ writeFrom own far count m buffer .answer → s ≡ writeFrom own far count m buffer .answer
+    → a ≡ writeFrom own far count m buffer .buffer → b ≡ writeFrom own far count m buffer .buffer → (r ≡ s) × (a ≡ b)
+writeFromOnce own far count m buffer p q v w = (p ∙ sym q, v ∙ sym w)

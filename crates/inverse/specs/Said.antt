@@ -1,0 +1,17 @@
+-- A message as the writer is told it and as the reader tells it.
+-- Assumes nothing.
+use mathlib.Core.Bool.{cond}
+use Prim.Native.Nat.{ℕ}
+use lib.ListN.{take}
+use Rattle.link.specs.declared.Fields.{Fields}
+use Rattle.link.specs.Messages.{isIam}
+use Rattle.link.specs.Reading.{plainFields, iamFields}
+use Rattle.link.specs.Writing.{Said, said}
+
+-- the fields that a reader is to find
+abbrev pub fieldsSaid : Said → Fields
+fieldsSaid m = cond (isIam (m .heading)) (iamFields (m .cic) (m .category) (m .indicators) (m .address)) (plainFields (m .cic) (m .heading) (m .acm))
+
+-- what a writer is to say of the fields that were read
+abbrev pub saidOf : Fields → Said
+saidOf f = said (f .circuit .0) (f .heading) (f .acm) (f .category) (f .indicators) (take (f .count) (f .address))
