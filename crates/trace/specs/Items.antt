@@ -75,4 +75,3 @@ whole s e q =
     (λ n. byTest (ltb (length s) (octetsOf (octet s 0)))
     (λ l. let y : Event e ≡ Short = sym q ∙ isShort s p n (ltb-true _ _ l) in never cc)
     (λ l. wholeHere s e q p n (ltb-false _ _ l))))
-
