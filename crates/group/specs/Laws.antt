@@ -1,11 +1,11 @@
 -- What holds of every event on every circuit of every table, for any circuit number.
 -- Assumes nothing.
-use mathlib.Core.Path.{_≡_, refl, sym, ap, _∙_, subst}
+use mathlib.Core.Path.{_≡_, refl, sym, ap, _∙_}
 use mathlib.Core.Bool.{Bool, true, false, cond}
 use mathlib.Core.List.{List}
 use Prim.Native.Nat.{ℕ, _<_, _≤_}
 use native.Mathlib.Omega.{arith}
-use lib.Dec.{T, eqb, leb, ltb}
+use lib.Dec.{eqb, leb, ltb}
 use lib.ListN.{length}
 use borrow.Author.Tests.{eqb-true, eqb-false, leb-false, ltb-false}
 use Rattle.circuit.specs.declared.Outcome.{Outcome}
@@ -17,7 +17,7 @@ use Rattle.step.specs.Step.{stepFound}
 use Rattle.step.specs.Refusals.{refusalFound}
 use Rattle.step.specs.Refused.{keepsFound, refusesFound}
 use Rattle.group.specs.declared.Answer.{Answer}
-use Rattle.group.specs.Layout.{recordsIn, stateAt, flagsAt, flagsOf, recordOf, recordAt, put, flagsBack, recordBack, putLength, putRecord, otherState, otherFlags}
+use Rattle.group.specs.Layout.{recordsIn, stateAt, flagsAt, recordOf, recordAt, put, recordBack, putLength, putRecord, otherState, otherFlags}
 use Rattle.group.specs.Table.{Step, refusal, nowhere, refusedAt, taken, landed, onCircuit, stepIn}
 use Rattle.group.specs.Cases.{stepped, inGroup}
 use Rattle.group.specs.Refusals.{refusalIn}
@@ -51,7 +51,12 @@ pub record Carries (cic : ℕ) (o : Outcome) (s : Step) : Type 0 where
 
 module _ (own far : ℕ) (table : List ℕ) (cic : ℕ) (event : Found) where
   -- whatever holds of each way to be refused, and of an accepted event, holds of a step
-  pub byCases : (P : Step → Type 0) → P (nowhere 1 table) → P (nowhere 2 table) → ((n : ℕ) → (n ≡ 0 → ⊥) → P (refusedAt n table cic)) → (cic < recordsIn (length table) → flagsAt table cic ≤ 15 → outcomeAt own far table cic event .refusal ≡ 0 → P (accepted table cic (outcomeAt own far table cic event))) → P (stepIn own far table cic event)
+  pub byCases : (P : Step → Type 0)
+      → P (nowhere 1 table)
+      → P (nowhere 2 table)
+      → ((n : ℕ) → (n ≡ 0 → ⊥) → P (refusedAt n table cic))
+      → (cic < recordsIn (length table) → flagsAt table cic ≤ 15 → outcomeAt own far table cic event .refusal ≡ 0 → P (accepted table cic (outcomeAt own far table cic event)))
+      → P (stepIn own far table cic event)
   unfolding stepIn onCircuit
   byCases P p₁ p₂ refused took = go₁ (badGroup own far (recordsIn (length table)))
     where
@@ -103,7 +108,10 @@ module _ (own far : ℕ) (table : List ℕ) (cic : ℕ) (event : Found) where
   keepsLength = byCases (λ s. length (s .table) ≡ length table) refl refl (λ n h. refl) (λ h l a. putLength table cic _)
 
   -- of a circuit of the group whose flags are some: the step on the table is one circuit's step on its record
-  pub isStep : badGroup own far (recordsIn (length table)) ≡ false → cic < recordsIn (length table) → flagsAt table cic ≤ 15 → Carries cic (outcomeAt own far table cic event) (stepIn own far table cic event)
+  pub isStep : badGroup own far (recordsIn (length table)) ≡ false
+      → cic < recordsIn (length table)
+      → flagsAt table cic ≤ 15
+      → Carries cic (outcomeAt own far table cic event) (stepIn own far table cic event)
   isStep good h l = rw (inGroup own far table cic event good h, stepped (controls own far cic) table cic event l) (go (eqb (o .refusal) 0) refl)
     where
       o : Outcome
@@ -133,6 +141,11 @@ module _ (own far : ℕ) (table : List ℕ) (cic : ℕ) (event : Found) where
       go₁ false false true = refl
       go₁ false false false = number (eqb (o .refusal) 0) refl
 
-  -- the contract of `step` determines the answer and every octet of the table after it
-  pub determined : (a b : Answer) (t u : List ℕ) → (a ≡ stepIn own far table cic event .answer) × (t ≡ stepIn own far table cic event .table) → (b ≡ stepIn own far table cic event .answer) × (u ≡ stepIn own far table cic event .table) → (a ≡ b) × (t ≡ u)
-  determined a b t u p q = (p .0 ∙ sym (q .0), p .1 ∙ sym (q .1))
+-- the contract of `step` determines the answer and every octet of the table after it
+pub record Meets (own far : ℕ) (table : List ℕ) (cic : ℕ) (event : Found) (a : Answer) (after : List ℕ) : Type 0 where
+  pub answers : a ≡ stepIn own far table cic event .answer
+  pub leaves : after ≡ stepIn own far table cic event .table
+
+pub determined : {own far : ℕ} {table : List ℕ} {cic : ℕ} {event : Found} {a b : Answer} {t u : List ℕ}
+    → Meets own far table cic event a t → Meets own far table cic event b u → (a ≡ b) × (t ≡ u)
+determined p q = (p .answers ∙ sym (q .answers), p .leaves ∙ sym (q .leaves))

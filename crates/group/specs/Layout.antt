@@ -1,7 +1,7 @@
 -- Where a circuit's record lies in a lent table of octets, and the laws that all above goes by: nothing else knows the layout.
 -- A record is two octets, the state and the flags; record i is circuit i, and a table of zeros is an idle group.
 -- Assumes nothing.
-use mathlib.Core.Path.{_≡_, refl, ap}
+use mathlib.Core.Path.{_≡_, refl}
 use mathlib.Core.Bool.{Bool, true, false, cond}
 use mathlib.Core.List.{List}
 use Prim.Native.Nat.{ℕ, zero, suc, _+_, _*_, _/_, _%_, _<_, _≤_}
@@ -10,10 +10,9 @@ use native.Mathlib.Numerals.{unary-clauses}
 use lib.Dec.{eqb, eqb→eq}
 use lib.ListN.{length, getD, set, length-set, replicate}
 use lib.Seq.{getD-set-same, getD-set-other, lt-length-set}
-use borrow.Author.Tests.{eqb-true}
 use Rattle.circuit.specs.declared.Record.{Record}
 use Rattle.circuit.specs.Records.{rec}
-use Rattle.circuit.specs.Every.{eachBelow, atBelow}
+use Rattle.circuit.specs.Every.{atBelow}
 
 abbrev pub recordOctets : ℕ
 recordOctets = 2

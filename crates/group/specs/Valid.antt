@@ -1,6 +1,6 @@
 -- A table of valid records stays one, so a group that starts idle never answers 12.
 -- Assumes nothing.
-use mathlib.Core.Path.{_≡_, refl, sym, subst, _∙_}
+use mathlib.Core.Path.{_≡_, refl, sym, _∙_}
 use mathlib.Core.Bool.{Bool, true, false, cond}
 use mathlib.Core.List.{List}
 use Prim.Native.Nat.{ℕ, _<_, _≤_}
@@ -16,13 +16,12 @@ use Rattle.circuit.specs.Groups.{badGroup, controls}
 use Rattle.circuit.specs.Rows.{refused}
 use Rattle.codes.specs.declared.Found.{Found}
 use Rattle.codes.specs.declared.Found.the-variants.{Is, Missing}
-use Rattle.step.specs.Step.{step, stepFound}
+use Rattle.step.specs.Step.{stepFound}
 use Rattle.step.specs.Refusals.{refusal, refusalFound, allowed, runs, seizesBlocked}
 use Rattle.step.specs.Always.{kept}
-use Rattle.group.specs.Layout.{recordsIn, stateAt, flagsAt, recordOf, recordAt, put, idle, idleState, idleFlags, flagsLow, putLength, putFlags, putRecord, otherState, otherFlags, otherRecord}
-use Rattle.group.specs.Table.{Step, stepIn}
-use Rattle.group.specs.Refusals.{refusalIn}
-use Rattle.group.specs.Laws.{Same, byCases, others, keepsLength, refusals}
+use Rattle.group.specs.Layout.{recordsIn, flagsAt, recordOf, recordAt, put, idle, idleState, idleFlags, flagsLow, putLength, putFlags, putRecord, otherFlags, otherRecord}
+use Rattle.group.specs.Table.{stepIn}
+use Rattle.group.specs.Laws.{byCases, refusals}
 
 -- a circuit's octets are a record that document 01 allows
 pub record ValidAt (table : List ℕ) (i : ℕ) : Type 0 where

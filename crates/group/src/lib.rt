@@ -1,11 +1,12 @@
 // A group of circuits whose records lie in a lent table: an event on one of its circuits, with every refusal of document 01.
-pub mod layout; // layout.rt: where a record lies in the table
+mod layout; // layout.rt: where a record lies in the table
 
 use circuit::Cic;
 use circuit::Outcome;
 use circuit::PointCode;
 use circuit::Sends;
 use codes::Found;
+pub use layout::RECORD_OCTETS;
 ghost use mathlib.Core.Path.{_≡_};
 ghost use Rattle.group.specs.Table.{refusal, refusedAt, taken, landed, onCircuit, stepIn};
 

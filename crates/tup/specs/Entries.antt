@@ -4,7 +4,7 @@ use mathlib.Core.Path.{_≡_, sym, _∙_}
 use mathlib.Core.List.{List}
 use Prim.Native.Nat.{ℕ}
 use Rattle.codes.specs.Numbers.{eventOf}
-use Rattle.group.specs.Table.{Step, stepIn}
+use Rattle.group.specs.Table.{stepIn}
 use Rattle.tup.specs.Packed.{packed}
 
 -- what `tup_step` promises of its answer and of the table after it
@@ -12,5 +12,6 @@ pub record Stepped (own far : ℕ) (table : List ℕ) (cic kind code detail : �
   pub answers : r ≡ packed (stepIn own far table cic (eventOf kind code detail) .answer)
   pub leaves : after ≡ stepIn own far table cic (eventOf kind code detail) .table
 
-pub stepDetermined : {own far : ℕ} {table : List ℕ} {cic kind code detail : ℕ} {r s : ℕ} {t u : List ℕ} → Stepped own far table cic kind code detail r t → Stepped own far table cic kind code detail s u → (r ≡ s) × (t ≡ u)
+pub stepDetermined : {own far : ℕ} {table : List ℕ} {cic kind code detail : ℕ} {r s : ℕ} {t u : List ℕ}
+    → Stepped own far table cic kind code detail r t → Stepped own far table cic kind code detail s u → (r ≡ s) × (t ≡ u)
 stepDetermined p q = (p .answers ∙ sym (q .answers), p .leaves ∙ sym (q .leaves))

@@ -2,6 +2,8 @@
 -- Assumes nothing.
 use mathlib.Core.Path.{refl}
 use Rattle.group.specs.Cases.{met, noFlags, stepped}
+use native.Mathlib.Omega.{arith}
+use denote.Ref.{now}
 use borrow.Author.Needs.{needs}
 use Rattle.group.proofs.on_circuit.Statement.{statement}
 use Rattle.group.proofs.on_circuit.Tie as tie
@@ -16,7 +18,12 @@ same-length : tie.Need-same-length
 same-length c = search needs
 
 returns : tie.Need-returns
-returns c = met (noFlags _ _ _ _ (rw (c .before .before .before .flags-at .ensures) at (c .before .before .if1 .taken))) (c .refused-at .ensures) refl
+returns c =
+    let f = c .before .before .before in let a = f .before .before .before .args in
+    met
+    (noFlags (a .con) (now (a .table)) (a .cic .0) (a .event) (omega (arith, f .flags-at .ensures, c .before .before .if1 .taken)))
+    (c .refused-at .ensures)
+    refl
 
 state-at-requires : tie.Need-state-at-requires
 state-at-requires c κs = search needs
@@ -35,11 +42,11 @@ same-length-2 c = search needs
 
 returns-2 : tie.Need-returns-2
 returns-2 c =
-    let d = c .before .before in let r = d .before .before .before in
+    let d = c .before .before in let r = d .before .before .before in let f = r .before .before .before .before in let a = f .before .before .before .args in
     met
-    (stepped _ _ _ _ (rw (r .before .before .before .before .flags-at .ensures) at (r .before .before .before .if1 .left)))
-    (rw (d .land .ensures .0, d .before .step-found .ensures, r .record-of .ensures, r .before .state-at .ensures, r .before .before .before .before .flags-at .ensures))
-    (rw (d .land .ensures .1, d .before .step-found .ensures, r .record-of .ensures, r .before .state-at .ensures, r .before .before .before .before .flags-at .ensures))
+    (stepped (a .con) (now (a .table)) (a .cic .0) (a .event) (omega (arith, f .flags-at .ensures, r .before .before .before .if1 .left)))
+    (rw (d .land .ensures .0, d .before .step-found .ensures, r .record-of .ensures, r .before .state-at .ensures, f .flags-at .ensures))
+    (rw (d .land .ensures .1, d .before .step-found .ensures, r .record-of .ensures, r .before .state-at .ensures, f .flags-at .ensures))
 
 pub on-circuit-spec : {M : Type 1} → statement M
 on-circuit-spec =

@@ -2,6 +2,8 @@
 -- Assumes nothing.
 use mathlib.Core.Path.{refl}
 use Rattle.group.specs.Cases.{met, noGroup, noCircuit, inGroup}
+use native.Mathlib.Omega.{arith}
+use denote.Ref.{now}
 use borrow.Author.Needs.{needs}
 use Rattle.group.proofs.step.Statement.{statement}
 use Rattle.group.proofs.step.Tie as tie
@@ -26,9 +28,9 @@ refusal-requires-2 c κs = search needs
 
 returns-2 : tie.Need-returns-2
 returns-2 c =
-    let d = c .before .before .before in
+    let d = c .before .before .before in let n = d .before .before in let a = n .before .before .args in
     met
-    (noCircuit _ _ _ _ _ (rw (d .before .bad-group .ensures, d .before .before .records .ensures) at (d .if1 .left)) (rw (d .before .before .records .ensures) at (c .before .if2 .taken)))
+    (noCircuit (a .own .0) (a .far .0) (now (a .table)) (a .cic .0) (a .event) (rw (d .before .bad-group .ensures, n .records .ensures) at (d .if1 .left)) (omega (arith, n .records .ensures, c .before .if2 .taken)))
     (c .refusal2 .ensures)
     refl
 
@@ -43,9 +45,9 @@ same-length c = search needs
 
 returns-3 : tie.Need-returns-3
 returns-3 c =
-    let e = c .before .before in let g = e .before .before in let d = g .before .before in
+    let e = c .before .before in let g = e .before .before in let d = g .before .before .before in let n = d .before .before in let a = n .before .before .args in
     met
-    (inGroup _ _ _ _ _ (rw (d .before .before .bad-group .ensures, d .before .before .before .records .ensures) at (d .before .if1 .left)) (rw (d .before .before .before .records .ensures) at (g .before .if2 .left)))
+    (inGroup (a .own .0) (a .far .0) (now (a .table)) (a .cic .0) (a .event) (rw (d .before .bad-group .ensures, n .records .ensures) at (d .if1 .left)) (omega (arith, n .records .ensures, g .before .if2 .left)))
     (rw (e .on-circuit .ensures .0, g .controls .ensures))
     (rw (e .on-circuit .ensures .1, g .controls .ensures))
 

@@ -2,7 +2,6 @@
 -- Assumes nothing.
 use lib.ListN.{length}
 use Prim.Native.Nat.{_≤_, _-_}
-use mathlib.Core.Path.{_≡_}
 use borrow.Author.Needs.{needs}
 use Rattle.cases.proofs.steps.is_laid_out.Statement.{statement}
 use Rattle.cases.proofs.steps.is_laid_out.Tie as tie
