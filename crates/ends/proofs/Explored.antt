@@ -3,26 +3,37 @@
 use mathlib.Core.Bool.{Bool, true, false, cond, _&&_}
 use mathlib.Core.List.{List, [], _∷_}
 use Prim.Native.Nat.{ℕ, zero, suc}
-use lib.Dec.{T}
+use lib.Dec.{T, leb}
+use lib.ListN.{length}
 use Rattle.circuit.specs.Rows.{first}
 use Rattle.step.specs.Step.{step, stepFound}
 use Rattle.ends.specs.Ends.{does}
 use Rattle.ends.proofs.Moves.{Table, Columns, columns, look}
-use Rattle.ends.proofs.Rooms.{Need, Need.room, Need.impossible, Room, inRole, follows, listed, closedAt, closed, firstRoom}
+use Rattle.ends.proofs.Words.{Half, Half.half, restOf}
+use Rattle.ends.proofs.Rooms.{sound, Need, Need.room, Need.impossible, Room, inRole, follows, listed, closedAt, closed, firstRoom}
 
 -- rooms to follow, rooms found
 data Search : Type 0 where
   search-of : List Room → List Room → Search
 
-abbrev add : Bool → Room → List Room → List Room → Search
-add true r todo found = search-of todo found
-add false r todo found = search-of (r ∷ todo) (r ∷ found)
+-- a room worth following: a list that has another is not closed, or grows on
+abbrev short : Half → Bool
+short (half s r b) = leb (length (restOf r)) 4
+
+abbrev hopeful : Room → Bool
+hopeful r = sound r && (short (r .0) && short (r .1))
+
+-- known, hopeful; the search ends at a room that is neither
+abbrev add : (k h : Bool) → Room → List Room → List Room → Search
+add true h r todo found = search-of todo found
+add false true r todo found = search-of (r ∷ todo) (r ∷ found)
+add false false r todo found = search-of [] (r ∷ found)
 
 -- the needs of the room r
 abbrev addAll : Room → Bool → List Need → Search → Search
 addAll r c [] q = q
 addAll r c (impossible ∷ l) q = addAll r c l q
-addAll r c (room me you ∷ l) (search-of todo found) = addAll r c l (add (listed (r ∷ found) (inRole c me you)) (inRole c me you) todo found)
+addAll r c (room me you ∷ l) (search-of todo found) = addAll r c l (add (listed (r ∷ found) (inRole c me you)) (hopeful (inRole c me you)) (inRole c me you) todo found)
 
 -- fuel: at most so many rooms are followed
 explore : Table → ℕ → Search → List Room
