@@ -18,7 +18,7 @@ use Rattle.codes.specs.declared.Found.{Found}
 use Rattle.codes.specs.declared.Found.the-variants.{Is, Missing}
 use Rattle.step.specs.Step.{step, stepFound}
 use Rattle.ends.specs.Ends.{does, inOrder, When, When.anyTime, When.inSilence, When.losingAll, When.never, whenGiven}
-use Rattle.ends.proofs.Words.{word, words, heard, sameList, same-list}
+use Rattle.ends.proofs.Words.{word, words, heard, member, sameList, same-list}
 use Rattle.ends.proofs.Events.{said, alike, hostEvents, everywhere, atWord, atHost}
 
 pub data Move : Type 0 where
@@ -37,8 +37,7 @@ same-move (to s o) (to t u) h =
     cc
 
 abbrev pub among : Move → List Move → Bool
-among a [] = false
-among a (b ∷ l) = sameMove a b || among a l
+among a l = member sameMove a l
 
 -- The moves by role, state and cause: a word that arrives, 0..12, or what the host gives
 abbrev pub Table : Type 0

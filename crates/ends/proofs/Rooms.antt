@@ -6,7 +6,7 @@ use mathlib.Core.List.{List, [], _∷_, _++_}
 use Prim.Native.Nat.{ℕ, zero, suc}
 use lib.Dec.{T, eqb, leb}
 use Rattle.ends.specs.Ends.{sameStage, unheard, When.anyTime, When.inSilence, When.losingAll}
-use Rattle.ends.proofs.Words.{words, blo, mute, quiet, next, Run, Run.ran, run, restOf, Half, Half.half, sameHalf, joinAll, endOf, reach, outgoing, allIn, has, family, absorbs}
+use Rattle.ends.proofs.Words.{words, blo, mute, quiet, next, Run, Run.ran, run, restOf, Half, Half.half, sameHalf, joinAll, endOf, reach, outgoing, allIn, member, has, family, absorbs}
 use Rattle.ends.proofs.Events.{said}
 use Rattle.ends.proofs.Moves.{Move, Move.to, Table, causeOf}
 
@@ -87,14 +87,13 @@ hears (half s (ran p (x ∷ u)) b) = not (eqb s p && unheard s (said x))
 abbrev pub sound : Room → Bool
 sound r = agrees (r .0) (r .1) && (hears (r .0) && hears (r .1))
 
--- a list of rooms; what a `let` binds and the cases of an `elim` are computed only where they are read
+-- a list of rooms
 
 abbrev pub sameRoom : Room → Room → Bool
 sameRoom r q = sameHalf (r .0) (q .0) && sameHalf (r .1) (q .1)
 
 abbrev pub listed : List Room → Room → Bool
-listed [] q = false
-listed (r ∷ l) q = let rest = listed l q in sameRoom r q || rest
+listed l r = member sameRoom r l
 
 abbrev pub inRole : Bool → Half → Half → Room
 inRole true me you = (me, you)

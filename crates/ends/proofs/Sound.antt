@@ -7,7 +7,7 @@ use Prim.Native.Nat.{ℕ, zero, suc}
 use lib.Dec.{T, eqb, leb, eqb→eq, eqb-refl}
 use Rattle.circuit.specs.Every.{left, right}
 use Rattle.ends.specs.Ends.{When.anyTime, When.inSilence, When.losingAll}
-use Rattle.ends.proofs.Words.{words, blo, mute, kept, bloIn, quiet, next, Run, Run.ran, run, restOf, Half, Half.half, view, sameHalf, same-half, joinAll, joined, allIn, has, at-has, both, is-true, family, absorbs, run-absorbs, endOf, reach, outgoing, run-ends}
+use Rattle.ends.proofs.Words.{words, blo, mute, kept, bloIn, quiet, next, Run, Run.ran, run, restOf, Half, Half.half, view, sameHalf, same-half, joinAll, joined, allIn, member, at-member, has, both, is-true, family, absorbs, run-absorbs, endOf, reach, outgoing, run-ends}
 use Rattle.ends.proofs.Moves.{Move, Move.to, Table, among, sameMove, same-move, causeOf}
 use Rattle.ends.proofs.Rooms.{Room, Need, Need.room, Need.impossible, over, comes, stays, goes, glides, takesRest, takes, afresh, nothingComes, byWords, byHost, byLoss, bySilence, follows, sound, sameRoom, listed, inRole, meets, closedAt, closed}
 
@@ -33,22 +33,22 @@ meets-right : (l : List Room) (c : Bool) (a d : List Need) → Meets l c (a ++ d
 meets-right l c [] d h = h
 meets-right l c (x ∷ a) d h = meets-right l c a d (right (meets l c x) _ h)
 
--- needs over a list, at one of its members; `is x`: the member is the one that is asked for
-meets-at : (l : List Room) (c : Bool) {A : Type 0} (f : A → List Need) (a : A) (is : A → Bool) → ((x : A) → T (is x) → a ≡ x) → (has-it : List A → Bool)
-    → ((x : A) (k : List A) → T (has-it (x ∷ k)) → T (is x || has-it k)) → (T (has-it []) → ⊥) → (k : List A) → T (has-it k) → Meets l c (over f k) → Meets l c (f a)
-meets-at l c f a is same has-it split none [] h t = absurd (none h)
-meets-at l c f a is same has-it split none (x ∷ k) h t = by (is x) (same x) (split x k h) (λ g. meets-at l c f a is same has-it split none k g (meets-right l c (f x) (over f k) t))
+-- needs over a list, at one of its members
+meets-at : (l : List Room) (c : Bool) {A : Type 0} (same : A → A → Bool) → ((a b : A) → T (same a b) → a ≡ b) → (f : A → List Need) (a : A) (k : List A)
+    → T (member same a k) → Meets l c (over f k) → Meets l c (f a)
+meets-at l c same really f a [] h t = absurd h
+meets-at l c same really f a (x ∷ k) h t = by (same a x) (really a x) h (λ g. meets-at l c same really f a k g (meets-right l c (f x) (over f k) t))
   where
-    by : (q : Bool) → (T q → a ≡ x) → T (q || has-it k) → (T (has-it k) → Meets l c (f a)) → Meets l c (f a)
+    by : (q : Bool) → (T q → a ≡ x) → T (q || member same a k) → (T (member same a k) → Meets l c (f a)) → Meets l c (f a)
     by true e g rest = rw (e tt) (meets-left l c (f x) (over f k) t)
     by false e g rest = rest g
 
 module _ (l : List Room) (c : Bool) where
   at-move : (f : Move → List Need) (mv : Move) (k : List Move) → T (among mv k) → Meets l c (over f k) → Meets l c (f mv)
-  at-move f mv = meets-at l c f mv (sameMove mv) (same-move mv) (among mv) (λ x k h. h) (λ h. h)
+  at-move = meets-at l c sameMove same-move
 
   at-word : (f : ℕ → List Need) (x : ℕ) → T (has x words) → Meets l c (over f words) → Meets l c (f x)
-  at-word f x = meets-at l c f x (eqb x) (eqb→eq x) (has x) (λ y k h. h) (λ h. h) words
+  at-word f x = meets-at l c eqb eqb→eq f x words
 
   -- a choice: what either side needs
   either : (q : Bool) (a d : List Need) {R : Type 0} → (T q → Meets l c a → R) → (Meets l c d → R) → Meets l c (cond q a d) → R
@@ -144,22 +144,17 @@ same-room r q h =
     let b : r .1 ≡ q .1 = same-half (r .1) (q .1) (right (sameHalf (r .0) (q .0)) _ h) in
     λ i. (a i, b i)
 
-at-listed : (f : Room → Bool) (l : List Room) (q : Room) → T (listed l q) → T (allIn f l) → T (f q)
-at-listed f [] q h t = absurd h
-at-listed f (r ∷ l) q h t = by (sameRoom r q) (same-room r q) h (λ g. at-listed f l q g (right (f r) _ t))
-  where
-    by : (k : Bool) → (T k → r ≡ q) → T (k || listed l q) → (T (listed l q) → T (f q)) → T (f q)
-    by true e g rest = rw (← (e tt)) (left (f r) _ t)
-    by false e g rest = rest g
+at-listed : (f : Room → Bool) (l : List Room) (r : Room) → T (listed l r) → T (allIn f l) → T (f r)
+at-listed = at-member sameRoom same-room
 
 -- a listed room that is put in front of the list adds nothing to it
 in-front : (l : List Room) (r : Room) → T (listed l r) → (c : Bool) (n : List Need) → Meets (r ∷ l) c n → Meets l c n
 in-front l r h c [] t = tt
 in-front l r h c (impossible ∷ n) t = absurd t
-in-front l r h c (room me you ∷ n) t = both (listed l (inRole c me you)) _ (by (sameRoom r (inRole c me you)) (same-room r (inRole c me you)) (left (meets (r ∷ l) c (room me you)) _ t)) (in-front l r h c n (right (meets (r ∷ l) c (room me you)) _ t))
+in-front l r h c (room me you ∷ n) t = both (listed l (inRole c me you)) _ (by (sameRoom (inRole c me you) r) (same-room (inRole c me you) r) (left (meets (r ∷ l) c (room me you)) _ t)) (in-front l r h c n (right (meets (r ∷ l) c (room me you)) _ t))
   where
-    by : (k : Bool) → (T k → r ≡ inRole c me you) → T (k || listed l (inRole c me you)) → T (listed l (inRole c me you))
-    by true e g = rw (← (e tt)) h
+    by : (k : Bool) → (T k → inRole c me you ≡ r) → T (k || listed l (inRole c me you)) → T (listed l (inRole c me you))
+    by true e g = rw (e tt) h
     by false e g = g
 
 -- two ends that stand in a room of a closed list

@@ -66,9 +66,24 @@ abbrev pub allIn : {A : Type 0} → (A → Bool) → List A → Bool
 allIn f [] = true
 allIn f (x ∷ l) = f x && allIn f l
 
+-- a test of equality, and membership by it; what a `let` binds is computed only where it is read, so the search stops at the first hit
+abbrev pub member : {A : Type 0} → (A → A → Bool) → A → List A → Bool
+member same a [] = false
+member same a (x ∷ l) = let rest = member same a l in same a x || rest
+
+pub at-member : {A : Type 0} (same : A → A → Bool) → ((a b : A) → T (same a b) → a ≡ b) → (f : A → Bool) (l : List A) (a : A) → T (member same a l) → T (allIn f l) → T (f a)
+at-member same really f [] a h t = absurd h
+at-member same really f (x ∷ l) a h t = by (same a x) (really a x) h (λ g. at-member same really f l a g (right (f x) (allIn f l) t))
+  where
+    by : (b : Bool) → (T b → a ≡ x) → T (b || member same a l) → (T (member same a l) → T (f a)) → T (f a)
+    by true e g k = rw (e tt) (left (f x) (allIn f l) t)
+    by false e g k = k g
+
 abbrev pub has : ℕ → List ℕ → Bool
-has x [] = false
-has x (y ∷ l) = eqb x y || has x l
+has x l = member eqb x l
+
+pub at-has : (f : ℕ → Bool) (l : List ℕ) (x : ℕ) → T (has x l) → T (allIn f l) → T (f x)
+at-has = at-member eqb eqb→eq
 
 pub both : (a b : Bool) → T a → T b → T (a && b)
 both true b s t = t
@@ -77,14 +92,6 @@ both false b s t = absurd s
 pub is-true : (a : Bool) → T a → a ≡ true
 is-true true t = refl
 is-true false t = absurd t
-
-pub at-has : (f : ℕ → Bool) (l : List ℕ) (x : ℕ) → T (has x l) → T (allIn f l) → T (f x)
-at-has f [] x h t = absurd h
-at-has f (y ∷ l) x h t = by (eqb x y) (eqb→eq x y) h (λ g. at-has f l x g (right (f y) (allIn f l) t))
-  where
-    by : (b : Bool) → (T b → x ≡ y) → T (b || has x l) → (T (has x l) → T (f x)) → T (f x)
-    by true e g k = rw (e tt) (left (f y) (allIn f l) t)
-    by false e g k = k g
 
 abbrev pub sameList : List ℕ → List ℕ → Bool
 sameList [] [] = true
