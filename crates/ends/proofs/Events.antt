@@ -1,17 +1,16 @@
 -- Every valid record and every event, as finite lists: a test that is computed at each of them holds of all.
 -- Assumes nothing.
-use mathlib.Core.Bool.{Bool, true, false, cond, not, _&&_, _||_}
-use mathlib.Core.List.{List, [], _∷_, _++_}
-use mathlib.Core.Path.{_≡_, refl, ap, sym, subst}
-use Prim.Native.Nat.{ℕ, zero, suc, _≤_, _<_, suc-le-suc}
-use lib.Dec.{T, eqb, leb, ltb, leb→le}
+use mathlib.Core.Bool.{Bool, true, false, _&&_}
+use mathlib.Core.List.{List, [], _∷_}
+use mathlib.Core.Path.{_≡_, refl}
+use Prim.Native.Nat.{ℕ, zero, suc, suc-le-suc}
+use lib.Dec.{T, leb, leb→le}
 use lib.ListN.{getD}
 use Rattle.circuit.specs.declared.Record.{Record}
 use Rattle.circuit.specs.declared.Failure.{Failure}
 use Rattle.circuit.specs.declared.Failure.the-variants.{Sec, Cgc, Nnc, Adi, Cfl, Ssb, Unn, Los, Sst}
 use Rattle.circuit.specs.declared.AddressType.{AddressType}
 use Rattle.circuit.specs.declared.AddressType.the-variants.{Plain, Charge, NoCharge, Payphone}
-use Rattle.circuit.specs.declared.Charging.{Charging}
 use Rattle.circuit.specs.declared.Charging.the-variants.{Charged, Free}
 use Rattle.circuit.specs.declared.Signal.{Signal}
 use Rattle.circuit.specs.declared.Signal.the-variants.{Iam, Acm, Anc, Ann, Cbk, Clf, Ran, Rlg, Blo, Bla, Ubl, Uba, Rsc, Fail}
@@ -20,7 +19,7 @@ use Rattle.circuit.specs.declared.Command.the-variants.{Seize, Release, Address
 use Rattle.circuit.specs.declared.Timer.{Timer}
 use Rattle.circuit.specs.declared.Timer.the-variants.{AddressWait, AnswerWait, IncomingHangUp, Repeat, OneMinute, BlockRepeat}
 use Rattle.circuit.specs.declared.Event.the-variants.{Arrives, Ordered, RunsOut}
-use Rattle.circuit.specs.Records.{rec, valid, flagsAllowed, onlyFar}
+use Rattle.circuit.specs.Records.{rec, valid}
 use Rattle.circuit.specs.Rows.{first}
 use Rattle.circuit.specs.Every.{left, right, implies, then, eachBool, atBool, eachBelow, atBelow}
 use Rattle.codes.specs.declared.Found.{Found}

@@ -1,6 +1,6 @@
 -- The rooms that are reached from the first one, found by following every happening, and one test of them all.
 -- Assumes nothing.
-use mathlib.Core.Bool.{Bool, true, false, cond, _&&_}
+use mathlib.Core.Bool.{Bool, true, false, _&&_}
 use mathlib.Core.List.{List, [], _∷_}
 use Prim.Native.Nat.{ℕ, zero, suc}
 use lib.Dec.{T, leb}
@@ -8,7 +8,7 @@ use lib.ListN.{length}
 use Rattle.circuit.specs.Rows.{first}
 use Rattle.step.specs.Step.{step, stepFound}
 use Rattle.ends.specs.Ends.{does}
-use Rattle.ends.proofs.Moves.{Table, Columns, columns, look}
+use Rattle.ends.proofs.Moves.{Table, columns, look}
 use Rattle.ends.proofs.Words.{Half, Half.half, restOf}
 use Rattle.ends.proofs.Rooms.{sound, Need, Need.room, Need.impossible, Room, inRole, follows, listed, closedAt, closed, firstRoom}
 

@@ -5,4 +5,6 @@ pub mod Rooms
 pub mod Sound
 pub mod Explored
 pub mod Marks
+pub mod Standing
 pub mod Claim
+pub mod Heard

@@ -3,8 +3,8 @@
 -- Assumes nothing.
 use mathlib.Core.Bool.{Bool, true, false, cond, not, _&&_, _||_}
 use mathlib.Core.List.{List, [], _∷_, _++_, append-assoc, append-nil}
-use mathlib.Core.Path.{_≡_, refl, ap, sym, _∙_, subst}
-use Prim.Native.Nat.{ℕ, zero, suc}
+use mathlib.Core.Path.{_≡_, refl, ap, sym, _∙_}
+use Prim.Native.Nat.{ℕ, suc}
 use lib.Dec.{T, eqb, leb, eqb→eq}
 use Rattle.circuit.specs.declared.Signal.{Signal}
 use Rattle.circuit.specs.declared.Signal.the-variants.{Iam, Acm, Anc, Ann, Cbk, Clf, Ran, Rlg, Blo, Bla, Ubl, Uba, Rsc, Fail}
@@ -154,8 +154,14 @@ endOf (ran p u) = p
 pub data Half : Type 0 where
   half : ℕ → Run → Bool → Half
 
+abbrev pub bloFor : ℕ → List ℕ → Bool
+bloFor s w = bloIn w && eqb s 1
+
+abbrev pub runOf : (c : Bool) → ℕ → List ℕ → Run
+runOf c s w = run c s (kept w)
+
 abbrev pub view : (c : Bool) → ℕ → List ℕ → Half
-view c s w = half s (run c s (kept w)) (bloIn w && eqb s 1)
+view c s w = half s (runOf c s w) (bloFor s w)
 
 -- halves compared
 

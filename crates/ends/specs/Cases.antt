@@ -1,6 +1,6 @@
 -- Pairs of ends that are reached, each with the steps that lead to it: the claims of `Ends` do not speak of nothing.
 -- Assumes nothing.
-use mathlib.Core.Bool.{Bool, true, false}
+use mathlib.Core.Bool.{true, false}
 use mathlib.Core.List.{List, [], _∷_, _++_}
 use mathlib.Core.Path.{_≡_, refl}
 use Prim.Native.Nat.{ℕ}
