@@ -10,12 +10,12 @@ use Rattle.circuit.specs.declared.Signal.the-variants.{Iam, Acm, Anc, Ann, Cbk,
 use Rattle.circuit.specs.Records.{valid}
 use Rattle.circuit.specs.Every.{left, right, eachBool, atBool, eachBelow, atBelow}
 use Rattle.ends.specs.Ends.{End, Reached, unheard, NextIsHeard, ClaimUnheard}
-use Rattle.ends.proofs.Words.{word, words, heard, mute, quiet, kept, run, next, Run.ran, Half, Half.half, view, bloIn, allIn, at-has, is-true}
+use Rattle.ends.proofs.Words.{word, words, heard, mute, quiet, kept, run, runOf, next, Run, Run.ran, Half, Half.half, view, bloFor, allIn, at-has, is-true}
 use Rattle.ends.proofs.Events.{isWord, said}
 use Rattle.ends.proofs.Rooms.{agrees, hears}
 use Rattle.ends.proofs.Sound.{sound-here}
 use Rattle.ends.proofs.Explored.{rooms}
-use Rattle.ends.proofs.Standing.{table, shut, Holds, holds, inEitherRole}
+use Rattle.ends.proofs.Standing.{table, shut, stateOf, due, Holds, holds, inEitherRole}
 
 same-unheard : (st : ℕ) (s : Signal) → unheard st s ≡ unheard st (said (word s))
 same-unheard st Iam = refl
@@ -45,21 +45,31 @@ or-cut true b t = tt
 or-cut false true t = t
 or-cut false false t = t
 
-hears-next : (c : Bool) (s x : ℕ) (w : List ℕ) → T (passes c s x) → T (hears (view c s (x ∷ w))) → T (not (unheard s (said x)))
-hears-next c s x w = by-mute (mute x)
-  where
-    by-quiet : (q : Bool) → T (not (unheard s (said x)) || not q && true) → T (hears (half s (cond q (run c (next s x) (kept w)) (ran s (x ∷ kept w))) (bloIn (x ∷ w) && eqb s 1))) → T (not (unheard s (said x)))
-    by-quiet true p h = or-cut (not (unheard s (said x))) true p
-    by-quiet false p h = rw (is-true (eqb s s) (eqb-refl s)) at h
+module _ (c : Bool) (s x : ℕ) (w : List ℕ) where
+  abbrev U : Bool
+  U = unheard s (said x)
 
-    by-mute : (m : Bool) → T (not (unheard s (said x)) || not (quiet c s x) && not m) → T (hears (half s (run c s (cond m (kept w) (x ∷ kept w))) (bloIn (x ∷ w) && eqb s 1))) → T (not (unheard s (said x)))
-    by-mute true p h = or-cut (not (unheard s (said x))) (not (quiet c s x)) p
-    by-mute false p h = by-quiet (quiet c s x) p h
+  abbrev Hears : Run → Type 0
+  Hears r = T (hears (half s r (bloFor s (x ∷ w))))
 
-next-heard : (c : Bool) (e : End) → T (valid (e .holds)) → T (hears (view c (e .holds .state) (heard (e .coming)))) → NextIsHeard e
-next-heard c e v h s rest k = rw (same-unheard (e .holds .state) s) (hears-next c (e .holds .state) (word s) (heard rest)
-    (at-has (passes c (e .holds .state)) words (word s) (isWord s) (atBelow 13 (λ n. allIn (passes c n) words) (atBool (λ c. eachBelow 13 (λ n. allIn (passes c n) words)) passed c) (e .holds .state) (suc-le-suc (leb→le (e .holds .state) 12 (left (leb (e .holds .state) 12) _ v)))))
-    (rw k at h))
+  by-quiet : (q : Bool) → T (not U || not q && true) → Hears (cond q (runOf c (next s x) w) (ran s (x ∷ kept w))) → T (not U)
+  by-quiet true p h = or-cut (not U) true p
+  by-quiet false p h = rw (is-true (eqb s s) (eqb-refl s)) at h
+
+  by-mute : (m : Bool) → T (not U || not (quiet c s x) && not m) → Hears (run c s (cond m (kept w) (x ∷ kept w))) → T (not U)
+  by-mute true p h = or-cut (not U) (not (quiet c s x)) p
+  by-mute false p h = by-quiet (quiet c s x) p h
+
+  hears-next : T (passes c s x) → T (hears (view c s (x ∷ w))) → T (not U)
+  hears-next = by-mute (mute x)
+
+passes-at : (c : Bool) (s : ℕ) → T (leb s 12) → (x : Signal) → T (passes c s (word x))
+passes-at c s h x = at-has (passes c s) words (word x) (isWord x)
+    (atBelow 13 (λ n. allIn (passes c n) words) (atBool (λ c. eachBelow 13 (λ n. allIn (passes c n) words)) passed c) s (suc-le-suc (leb→le s 12 h)))
+
+next-heard : (c : Bool) (e : End) → T (valid (e .holds)) → T (hears (view c (stateOf e) (due e))) → NextIsHeard e
+next-heard c e v h s rest k = rw (same-unheard (stateOf e) s)
+    (hears-next c (stateOf e) (word s) (heard rest) (passes-at c (stateOf e) (left (leb (stateOf e) 12) _ v) s) (rw k at h))
 
 all-heard : (x y : End) → Reached true false x y → NextIsHeard x × NextIsHeard y
 all-heard x y r = (next-heard true x (i .blocks .mine) (left (hears X) _ two), next-heard false y (i .blocks .yours) (right (hears X) _ two))
@@ -68,10 +78,10 @@ all-heard x y r = (next-heard true x (i .blocks .mine) (left (hears X) _ two), n
     i = holds r
 
     X : Half
-    X = view true (x .holds .state) (heard (x .coming))
+    X = view true (stateOf x) (due x)
 
     Y : Half
-    Y = view false (y .holds .state) (heard (y .coming))
+    Y = view false (stateOf y) (due y)
 
     two : T (hears X && hears Y)
     two = right (agrees X Y) _ (sound-here table rooms shut (X, Y) (i .calls))

@@ -5,7 +5,7 @@ use mathlib.Core.Bool.{Bool, true, false, cond, not, _&&_, _||_}
 use mathlib.Core.List.{List, [], _∷_, _++_}
 use Prim.Native.Nat.{ℕ}
 use lib.Dec.{eqb}
-use Rattle.ends.specs.Ends.{sameStage, unheard, When.anyTime, When.inSilence, When.losingAll}
+use Rattle.ends.specs.Ends.{sameStage, awaits, unheard, When.anyTime, When.inSilence, When.losingAll}
 use Rattle.ends.proofs.Words.{words, blo, mute, quiet, next, Run, Run.ran, run, restOf, Half, Half.half, sameHalf, joinAll, endOf, reach, outgoing, allIn, member, has, family, absorbs}
 use Rattle.ends.proofs.Events.{said}
 use Rattle.ends.proofs.Moves.{Move, Move.to, Table, causeOf}
@@ -79,7 +79,7 @@ follows m c (half s r b) y = byWords m c y s r b ++ (byHost m c y s r b ++ (byLo
 -- with nothing on its way and neither end in 5 or 12, the same stage
 abbrev pub agrees : Half → Half → Bool
 agrees (half s r b) (half t q d) = not (nothingComes (half s r b) && nothingComes (half t q d))
-    || (eqb s 5 || eqb s 12 || (eqb t 5 || eqb t 12) || (sameStage s t || sameStage t s))
+    || (awaits s || awaits t || (sameStage s t || sameStage t s))
 
 -- what arrives next is no signal that is never heard
 abbrev pub hears : Half → Bool

@@ -30,43 +30,59 @@ pub shut : T (closed table rooms)
 unfolding table
 shut = right (listed rooms firstRoom) _ tested
 
+abbrev pub stateOf : End → ℕ
+stateOf e = e .holds .state
+
+-- the words on their way to an end
+abbrev pub due : End → List ℕ
+due e = heard (e .coming)
+
 -- the two ends stand in a room of the list; c: the first is controlling
 abbrev pub Stand : Bool → End → End → Type 0
-Stand c x y = Inside rooms c (x .holds .state) (heard (x .coming)) (y .holds .state) (heard (y .coming))
+Stand c x y = Inside rooms c (stateOf x) (due x) (stateOf y) (due y)
 
 abbrev StandPair : Bool → Pair → Type 0
 StandPair c p = Stand c (p .0) (p .1)
 
-landed : (c : Bool) (o : Outcome) (rest : List Signal) (other : End) → Lands rooms c (heard rest) (other .holds .state) (heard (other .coming)) (moveOf o) → StandPair c (acted o rest other)
+landed : (c : Bool) (o : Outcome) (rest : List Signal) (other : End) → Lands rooms c (heard rest) (stateOf other) (due other) (moveOf o)
+    → StandPair c (acted o rest other)
 landed c o rest other h = rw (heard-more (other .coming) (inOrder (o .sends))) h
 
 module _ (c : Bool) (other : End) where
   arrived : (r : Record) (q : List Signal) → T (valid r) → Stand c (record { holds = r; coming = q }) other → StandPair c (arrival c r q other)
   unfolding table
   arrived r [] v i = i
-  arrived r (x ∷ rest) v i = landed c (does c r (Is (Arrives x))) rest other (by-word table rooms shut c (r .state) (word x) (heard rest) (other .holds .state) (heard (other .coming)) i (isWord x) (moveOf (does c r (Is (Arrives x)))) (word-listed table completed c r v x))
+  arrived r (x ∷ rest) v i = landed c o rest other
+      (by-word table rooms shut c (r .state) (word x) (heard rest) (stateOf other) (due other) i (isWord x) (moveOf o) (word-listed table completed c r v x))
+    where
+      o : Outcome
+      o = does c r (Is (Arrives x))
 
   -- in silence
-  still : (r : Record) (o : Outcome) (q v : List Signal) (t : Record) → T (empty q && empty v) → T (byCause inSilence (moveOf o) (table c (r .state))) → Stand c (record { holds = r; coming = q }) (record { holds = t; coming = v })
-      → StandPair c (acted o q (record { holds = t; coming = v }))
+  still : (r : Record) (o : Outcome) (q v : List Signal) (t : Record) → T (empty q && empty v) → T (byCause inSilence (moveOf o) (table c (r .state)))
+      → Stand c (record { holds = r; coming = q }) (record { holds = t; coming = v }) → StandPair c (acted o q (record { holds = t; coming = v }))
   still r o [] [] t e m i = by-silence table rooms shut c (r .state) (t .state) i (moveOf o) m
   still r o [] (y ∷ v) t e m i = absurd e
   still r o (x ∷ q) v t e m i = absurd e
 
-  hosted : (me : End) (e : Found) (w : When) → T (byCause w (moveOf (does c (me .holds) e)) (table c (me .holds .state))) → Stand c me other → StandPair c (given w c e me other)
-  hosted me e anyTime m i = landed c (does c (me .holds) e) (me .coming) other (by-host table rooms shut c (me .holds .state) (heard (me .coming)) (other .holds .state) (heard (other .coming)) i (moveOf (does c (me .holds) e)) m)
-  hosted me e inSilence m i = by (silence me other) (λ s. still (me .holds) (does c (me .holds) e) (me .coming) (other .coming) (other .holds) s m i)
-    where
-      by : (s : Bool) → (T s → StandPair c (acted (does c (me .holds) e) (me .coming) other)) → StandPair c (cond s (acted (does c (me .holds) e) (me .coming) other) (me, other))
-      by true k = k tt
-      by false k = i
-  hosted me e losingAll m i = by-loss table rooms shut c (me .holds .state) (heard (me .coming)) (other .holds .state) (heard (other .coming)) i (moveOf (does c (me .holds) e)) m
-  hosted me e never m i = i
+  module _ (me : End) (e : Found) (i : Stand c me other) where
+    abbrev o : Outcome
+    o = does c (me .holds) e
+
+    hosted : (w : When) → T (byCause w (moveOf o) (table c (stateOf me))) → StandPair c (given w c e me other)
+    hosted anyTime m = landed c o (me .coming) other (by-host table rooms shut c (stateOf me) (due me) (stateOf other) (due other) i (moveOf o) m)
+    hosted inSilence m = by (silence me other) (λ s. still (me .holds) o (me .coming) (other .coming) (other .holds) s m i)
+      where
+        by : (s : Bool) → (T s → StandPair c (acted o (me .coming) other)) → StandPair c (cond s (acted o (me .coming) other) (me, other))
+        by true k = k tt
+        by false k = i
+    hosted losingAll m = by-loss table rooms shut c (stateOf me) (due me) (stateOf other) (due other) i (moveOf o) m
+    hosted never m = i
 
   stands : (me : End) → T (valid (me .holds)) → Stand c me other → (h : Happening) → StandPair c (turn c h me other)
   unfolding table
   stands me v i arrives = arrived (me .holds) (me .coming) v i
-  stands me v i (host e) = hosted me e (whenGiven e) (host-listed table completed c (me .holds) v e) i
+  stands me v i (host e) = hosted me e i (whenGiven e) (host-listed table completed c (me .holds) v e)
 
 -- the other way round
 mirrored : (c : Bool) (x y : End) → Stand c x y → Stand (not c) y x
@@ -85,7 +101,11 @@ holds (atFirst {x = x} {y = y} r h) =
     record { blocks = turned true y x (i .blocks) h; calls = stands true y x (i .blocks .mine) (i .calls) h }
 holds (atSecond {x = x} {y = y} r h) =
     let i : Holds x y = holds r in
-    record { blocks = swapped (turned false x y (swapped (i .blocks)) h); calls = mirrored false (turn false h y x .0) (turn false h y x .1) (stands false x y (i .blocks .yours) (mirrored true x y (i .calls)) h) }
+    let p : Pair = turn false h y x in
+    record {
+      blocks = swapped (turned false x y (swapped (i .blocks)) h);
+      calls = mirrored false (p .0) (p .1) (stands false x y (i .blocks .yours) (mirrored true x y (i .calls)) h);
+    }
 
 -- the two ends change places
 pub mirror : {a b : Bool} {x y : End} → Reached a b x y → Reached b a y x
