@@ -82,8 +82,11 @@ abbrev overBools : (Bool → List Move → List Move) → List Move → List Mov
 overBools f l = f true (f false l)
 
 -- with every set of flags that is allowed in state s
+abbrev ifValid : (Record → List Move → List Move) → Record → List Move → List Move
+ifValid f r l = cond (valid r) (f r l) l
+
 abbrev overFlags : ℕ → (Record → List Move → List Move) → List Move
-overFlags s f = overBools (λ own. overBools (λ far. overBools (λ bla. overBools (λ uba l. cond (valid (rec s own far bla uba)) (f (rec s own far bla uba) l) l)))) []
+overFlags s f = overBools (λ own. overBools (λ far. overBools (λ bla. overBools (λ uba. ifValid f (rec s own far bla uba))))) []
 
 abbrev putHost : Bool → ℕ → Record → List Found → List Move → List Move
 putHost c k r [] l = l

@@ -89,7 +89,8 @@ module _ (l : List Room) (c : Bool) (w : List ℕ) (t : ℕ) (v : List ℕ) wher
   went : (s : ℕ) (b sure : Bool) → (T sure → b ≡ bloFor s w) → (T (not (eqb s 1)) → b ≡ bloFor s w) → (mv : Move)
       → Meets l c (goes c y s (runOf c s w) b sure mv) → Lands l c w t v mv
   went s b sure known other (to n o) =
-      either l c (eqb n s && (sure || not (eqb n 1))) _ _ (λ p h. same (eqb→eq n s (left (eqb n s) _ p)) (right (eqb n s) _ p) (front l c (half s (runOf c s w) b) (joinAll (not c) y o) _ h))
+      either l c (eqb n s && (sure || not (eqb n 1))) _ _ (λ p h.
+      same (eqb→eq n s (left (eqb n s) _ p)) (right (eqb n s) _ p) (front l c (half s (runOf c s w) b) (joinAll (not c) y o) _ h))
       (either l c (has s (family s) && absorbs c n (family s)) _ _ (λ p h. comes-with n o (rw (← (behind p)) at h)) (λ h. absurd h))
     where
       bit : (k e : Bool) → (T k → b ≡ bloFor s w) → (T (not e) → b ≡ bloFor s w) → T (k || not e) → b ≡ bloFor s w
@@ -115,8 +116,11 @@ module _ (l : List Room) (c : Bool) (w : List ℕ) (t : ℕ) (v : List ℕ) wher
       reached-if true k q h = h
       reached-if false k q h = absurd q
 
-      reached : n ≡ next s x → T (has n outgoing) → Meets l c (cond (has (endOf (runOf c (next s x) w)) (reach n)) (comes c y n (runOf c (next s x) w) o) []) → Meets l c (comes c y n (runOf c (next s x) w) o)
-      reached e q h = reached-if (has (endOf (runOf c (next s x) w)) (reach n)) _ (rw e (run-ends c (next s x) (rw e at q) (kept w))) h
+      R : Run
+      R = runOf c (next s x) w
+
+      reached : n ≡ next s x → T (has n outgoing) → Meets l c (cond (has (endOf R) (reach n)) (comes c y n R o) []) → Meets l c (comes c y n R o)
+      reached e q h = reached-if (has (endOf R) (reach n)) _ (rw e (run-ends c (next s x) (rw e at q) (kept w))) h
 
   took : (s x : ℕ) (mv : Move) → Meets l c (takesRest c y s (ran s (x ∷ kept w)) x mv) → Lands l c w t v mv
   took s x (to n o) h = comes-with n o (rw (is-true (eqb s s) (eqb-refl s), is-true (eqb x x) (eqb-refl x)) at h)
@@ -171,7 +175,8 @@ at-listed = at-member sameRoom same-room
 in-front : (l : List Room) (r : Room) → T (listed l r) → (c : Bool) (n : List Need) → Meets (r ∷ l) c n → Meets l c n
 in-front l r h c [] t = tt
 in-front l r h c (impossible ∷ n) t = absurd t
-in-front l r h c (room me you ∷ n) t = both (listed l q) _ (by (sameRoom q r) (same-room q r) (left (listed (r ∷ l) q) _ t)) (in-front l r h c n (right (listed (r ∷ l) q) _ t))
+in-front l r h c (room me you ∷ n) t =
+    both (listed l q) _ (by (sameRoom q r) (same-room q r) (left (listed (r ∷ l) q) _ t)) (in-front l r h c n (right (listed (r ∷ l) q) _ t))
   where
     q : Room
     q = inRole c me you
@@ -219,7 +224,8 @@ module _ (m : Table) (l : List Room) (shut : T (closed m l)) where
 
     -- a move of the host's, at any time
     pub by-host : (mv : Move) → T (among mv (m c s (causeOf anyTime))) → Lands l c w t v mv
-    by-host mv i = went l c w t v s b true (λ z. refl) (λ z. refl) mv (at-move l c (goes c o s r b true) mv (m c s (causeOf anyTime)) i (meets-left l c (byHost m c o s r b) _ others-met))
+    by-host mv i = went l c w t v s b true (λ z. refl) (λ z. refl) mv
+        (at-move l c (goes c o s r b true) mv (m c s (causeOf anyTime)) i (meets-left l c (byHost m c o s r b) _ others-met))
 
     fresh : (mv : Move) → Meets l c (afresh c o mv) → Lands l c [] t [] mv
     fresh (to n u) k = arrived l c [] t [] n u (front l c (view c n []) (joinAll (not c) (view (not c) t []) u) true k)
@@ -231,15 +237,19 @@ module _ (m : Table) (l : List Room) (shut : T (closed m l)) where
   -- one in silence
   pub by-silence : (c : Bool) (s t : ℕ) → Inside l c s [] t [] → (mv : Move) → T (among mv (m c s (causeOf inSilence))) → Lands l c [] t [] mv
   by-silence c s t here mv i = fresh c s [] t [] here mv (at-move l c (afresh c Y) mv (m c s (causeOf inSilence)) i
-      (rw (is-true (eqb s s) (eqb-refl s), is-true (eqb t t) (eqb-refl t)) at (meets-right l c (byLoss m c Y s (ran s []) false) _ (fresh-met c s [] t [] here))))
+      (rw (is-true (eqb s s) (eqb-refl s), is-true (eqb t t) (eqb-refl t)) at silent))
     where
       Y : Half
       Y = view (not c) t []
 
+      silent : Meets l c (bySilence m c Y s (ran s []) false)
+      silent = meets-right l c (byLoss m c Y s (ran s []) false) _ (fresh-met c s [] t [] here)
+
   -- a word that arrives
   pub by-word : (c : Bool) (s x : ℕ) (w : List ℕ) (t : ℕ) (v : List ℕ) → Inside l c s (x ∷ w) t v → T (has x words) → (mv : Move)
       → T (among mv (m c s x)) → Lands l c w t v mv
-  by-word c s x w t v here k mv i = taken l c w t v s x mv (at-move l c (taking x) mv (m c s x) i (at-word l c (λ z. over (taking z) (m c s z)) x k (words-met c s (x ∷ w) t v here)))
+  by-word c s x w t v here k mv i = taken l c w t v s x mv
+      (at-move l c (taking x) mv (m c s x) i (at-word l c (λ z. over (taking z) (m c s z)) x k (words-met c s (x ∷ w) t v here)))
     where
       taking : ℕ → Move → List Need
       taking = takes c (view (not c) t v) s (runOf c s (x ∷ w)) (bloFor s (x ∷ w))
