@@ -1,17 +1,16 @@
 -- Every valid record and every event, as finite lists: a test that is computed at each of them holds of all.
 -- Assumes nothing.
-use mathlib.Core.Bool.{Bool, true, false, cond, not, _&&_, _||_}
-use mathlib.Core.List.{List, [], _∷_, _++_}
-use mathlib.Core.Path.{_≡_, refl, ap, sym, subst}
-use Prim.Native.Nat.{ℕ, zero, suc, _≤_, _<_, suc-le-suc}
-use lib.Dec.{T, eqb, leb, ltb, leb→le}
+use mathlib.Core.Bool.{Bool, true, false, _&&_}
+use mathlib.Core.List.{List, [], _∷_}
+use mathlib.Core.Path.{_≡_, refl}
+use Prim.Native.Nat.{ℕ, zero, suc, suc-le-suc}
+use lib.Dec.{T, leb, leb→le}
 use lib.ListN.{getD}
 use Rattle.circuit.specs.declared.Record.{Record}
 use Rattle.circuit.specs.declared.Failure.{Failure}
 use Rattle.circuit.specs.declared.Failure.the-variants.{Sec, Cgc, Nnc, Adi, Cfl, Ssb, Unn, Los, Sst}
 use Rattle.circuit.specs.declared.AddressType.{AddressType}
 use Rattle.circuit.specs.declared.AddressType.the-variants.{Plain, Charge, NoCharge, Payphone}
-use Rattle.circuit.specs.declared.Charging.{Charging}
 use Rattle.circuit.specs.declared.Charging.the-variants.{Charged, Free}
 use Rattle.circuit.specs.declared.Signal.{Signal}
 use Rattle.circuit.specs.declared.Signal.the-variants.{Iam, Acm, Anc, Ann, Cbk, Clf, Ran, Rlg, Blo, Bla, Ubl, Uba, Rsc, Fail}
@@ -20,7 +19,7 @@ use Rattle.circuit.specs.declared.Command.the-variants.{Seize, Release, Address
 use Rattle.circuit.specs.declared.Timer.{Timer}
 use Rattle.circuit.specs.declared.Timer.the-variants.{AddressWait, AnswerWait, IncomingHangUp, Repeat, OneMinute, BlockRepeat}
 use Rattle.circuit.specs.declared.Event.the-variants.{Arrives, Ordered, RunsOut}
-use Rattle.circuit.specs.Records.{rec, valid, flagsAllowed, onlyFar}
+use Rattle.circuit.specs.Records.{rec, valid}
 use Rattle.circuit.specs.Rows.{first}
 use Rattle.circuit.specs.Every.{left, right, implies, then, eachBool, atBool, eachBelow, atBelow}
 use Rattle.codes.specs.declared.Found.{Found}
@@ -31,16 +30,37 @@ use Rattle.ends.proofs.Words.{word, words, allIn, has, at-has}
 
 -- valid records
 
-abbrev pub eachRecord : (Record → Bool) → Bool
-eachRecord f = eachBelow 13 (λ s. eachBool (λ own. eachBool (λ far. eachBool (λ bla. eachBool (λ uba. implies (valid (rec s own far bla uba)) (f (rec s own far bla uba)))))))
+module _ (f : Record → Bool) where
+  abbrev atFlags : ℕ → Bool → Bool → Bool → Bool → Bool
+  atFlags s own far bla uba = let r = rec s own far bla uba in implies (valid r) (f r)
 
-pub atRecord : (f : Record → Bool) → T (eachRecord f) → (r : Record) → T (valid r) → T (f r)
-atRecord f t r v = then (valid r) (f r) (atBool (at (r .state) (r .own) (r .far) (r .bla)) (atBool (λ bla. eachBool (at (r .state) (r .own) (r .far) bla))
-    (atBool (λ far. eachBool (λ bla. eachBool (at (r .state) (r .own) far bla))) (atBool (λ own. eachBool (λ far. eachBool (λ bla. eachBool (at (r .state) own far bla))))
-    (atBelow 13 (λ s. eachBool (λ own. eachBool (λ far. eachBool (λ bla. eachBool (at s own far bla))))) t (r .state) (suc-le-suc (leb→le (r .state) 12 (left (leb (r .state) 12) _ v)))) (r .own)) (r .far)) (r .bla)) (r .uba)) v
-  where
-    at : ℕ → Bool → Bool → Bool → Bool → Bool
-    at s own far bla uba = implies (valid (rec s own far bla uba)) (f (rec s own far bla uba))
+  abbrev eachFlags : ℕ → Bool
+  eachFlags s = eachBool (λ own. eachBool (λ far. eachBool (λ bla. eachBool (atFlags s own far bla))))
+
+  abbrev pub eachRecord : Bool
+  eachRecord = eachBelow 13 eachFlags
+
+  -- one flag after another
+  pub atRecord : T eachRecord → (r : Record) → T (valid r) → T (f r)
+  atRecord t r v = then (valid r) (f r) d v
+    where
+      s : ℕ
+      s = r .state
+
+      at : T (eachFlags s)
+      at = atBelow 13 eachFlags t s (suc-le-suc (leb→le s 12 (left (leb s 12) _ v)))
+
+      a : T (eachBool (λ far. eachBool (λ bla. eachBool (atFlags s (r .own) far bla))))
+      a = atBool (λ own. eachBool (λ far. eachBool (λ bla. eachBool (atFlags s own far bla)))) at (r .own)
+
+      b : T (eachBool (λ bla. eachBool (atFlags s (r .own) (r .far) bla)))
+      b = atBool (λ far. eachBool (λ bla. eachBool (atFlags s (r .own) far bla))) a (r .far)
+
+      c : T (eachBool (atFlags s (r .own) (r .far) (r .bla)))
+      c = atBool (λ bla. eachBool (atFlags s (r .own) (r .far) bla)) b (r .bla)
+
+      d : T (atFlags s (r .own) (r .far) (r .bla) (r .uba))
+      d = atBool (atFlags s (r .own) (r .far) (r .bla)) c (r .uba)
 
 -- signals: a word by one signal that has it
 
@@ -67,19 +87,28 @@ alike c r Uba = refl
 
 -- what the host can give: commands with their details, timers, and numbers that name neither
 
+abbrev ordered : Command → Found
+ordered k = Is (Ordered k)
+
 abbrev complete : AddressType → Bool → Found
-complete t free = Is (Ordered (AddressComplete t free))
+complete t free = ordered (AddressComplete t free)
 
 abbrev failing : Failure → Found
-failing f = Is (Ordered (FailCall f))
+failing f = ordered (FailCall f)
+
+abbrev runsOut : Timer → Found
+runsOut t = Is (RunsOut t)
 
 abbrev pub hostEvents : List Found
 hostEvents =
-    Missing ∷ Is (Ordered Seize) ∷ Is (Ordered Release) ∷ Is (Ordered ClearBack) ∷ Is (Ordered ReAnswer) ∷ Is (Ordered Block) ∷ Is (Ordered Unblock) ∷ Is (Ordered Restart)
-    ∷ Is (Ordered (Answer Charged)) ∷ Is (Ordered (Answer Free)) ∷ complete Plain true ∷ complete Plain false ∷ complete Charge true ∷ complete Charge false
-    ∷ complete NoCharge true ∷ complete NoCharge false ∷ complete Payphone true ∷ complete Payphone false ∷ failing Sec ∷ failing Cgc ∷ failing Nnc ∷ failing Adi
-    ∷ failing Cfl ∷ failing Ssb ∷ failing Unn ∷ failing Los ∷ failing Sst ∷ Is (RunsOut AddressWait) ∷ Is (RunsOut AnswerWait) ∷ Is (RunsOut IncomingHangUp)
-    ∷ Is (RunsOut Repeat) ∷ Is (RunsOut OneMinute) ∷ Is (RunsOut BlockRepeat) ∷ []
+    Missing
+    ∷ ordered Seize ∷ ordered Release ∷ ordered ClearBack ∷ ordered ReAnswer ∷ ordered Block ∷ ordered Unblock ∷ ordered Restart
+    ∷ ordered (Answer Charged) ∷ ordered (Answer Free)
+    ∷ complete Plain true ∷ complete Plain false ∷ complete Charge true ∷ complete Charge false
+    ∷ complete NoCharge true ∷ complete NoCharge false ∷ complete Payphone true ∷ complete Payphone false
+    ∷ failing Sec ∷ failing Cgc ∷ failing Nnc ∷ failing Adi ∷ failing Cfl ∷ failing Ssb ∷ failing Unn ∷ failing Los ∷ failing Sst
+    ∷ runsOut AddressWait ∷ runsOut AnswerWait ∷ runsOut IncomingHangUp ∷ runsOut Repeat ∷ runsOut OneMinute ∷ runsOut BlockRepeat
+    ∷ []
 
 at-place : (f : Found → Bool) (l : List Found) (n : ℕ) → T (f Missing) → T (allIn f l) → T (f (getD l n Missing))
 at-place f [] n h t = h

@@ -1,35 +1,53 @@
 -- The rooms that are reached from the first one, found by following every happening, and one test of them all.
 -- Assumes nothing.
-use mathlib.Core.Bool.{Bool, true, false, cond, _&&_}
+use mathlib.Core.Bool.{Bool, true, false, _&&_}
 use mathlib.Core.List.{List, [], _∷_}
 use Prim.Native.Nat.{ℕ, zero, suc}
-use lib.Dec.{T}
+use lib.Dec.{T, leb}
+use lib.ListN.{length}
 use Rattle.circuit.specs.Rows.{first}
 use Rattle.step.specs.Step.{step, stepFound}
 use Rattle.ends.specs.Ends.{does}
-use Rattle.ends.proofs.Moves.{Table, Columns, columns, look}
-use Rattle.ends.proofs.Rooms.{Need, Need.room, Need.impossible, Room, inRole, follows, listed, closedAt, closed, firstRoom}
+use Rattle.ends.proofs.Moves.{Table, columns, look}
+use Rattle.ends.proofs.Words.{Half, Half.half, restOf}
+use Rattle.ends.proofs.Rooms.{sound, Need, Need.room, Need.impossible, Room, inRole, follows, listed, closedAt, closed, firstRoom}
 
 -- rooms to follow, rooms found
 data Search : Type 0 where
   search-of : List Room → List Room → Search
 
-abbrev add : Bool → Room → List Room → List Room → Search
-add true r todo found = search-of todo found
-add false r todo found = search-of (r ∷ todo) (r ∷ found)
+-- a room worth following: with any other the list will not be closed, or will grow on and on
+abbrev short : Half → Bool
+short (half s r b) = leb (length (restOf r)) 4
+
+abbrev hopeful : Room → Bool
+hopeful r = sound r && (short (r .0) && short (r .1))
+
+-- k: the room is known; h: it is hopeful. The search ends at one that is neither.
+abbrev add : (k h : Bool) → Room → List Room → List Room → Search
+add true h r todo found = search-of todo found
+add false true r todo found = search-of (r ∷ todo) (r ∷ found)
+add false false r todo found = search-of [] (r ∷ found)
 
 -- the needs of the room r
 abbrev addAll : Room → Bool → List Need → Search → Search
 addAll r c [] q = q
 addAll r c (impossible ∷ l) q = addAll r c l q
-addAll r c (room me you ∷ l) (search-of todo found) = addAll r c l (add (listed (r ∷ found) (inRole c me you)) (inRole c me you) todo found)
+addAll r c (room me you ∷ l) (search-of todo found) =
+    let q = inRole c me you in
+    addAll r c l (add (listed (r ∷ found) q) (hopeful q) q todo found)
+
+-- whatever happens in the room r
+abbrev addFrom : Table → Room → Search → Search
+unfolding follows
+addFrom m r q = addAll r true (follows m true (r .0) (r .1)) (addAll r false (follows m false (r .1) (r .0)) q)
 
 -- fuel: at most so many rooms are followed
 explore : Table → ℕ → Search → List Room
 unfolding follows
 explore m zero (search-of todo found) = found
 explore m (suc n) (search-of [] found) = found
-explore m (suc n) (search-of (r ∷ todo) found) = explore m n (addAll r true (follows m true (r .0) (r .1)) (addAll r false (follows m false (r .1) (r .0)) (search-of todo found)))
+explore m (suc n) (search-of (r ∷ todo) found) = explore m n (addFrom m r (search-of todo found))
 
 pub rooms : List Room
 unfolding explore columns does stepFound step first

@@ -1,3 +1,7 @@
+-- The proof of what `Ends` claims, in this order:
+-- Words: a queue as the run of its words. Events: every record and event, as finite lists. Moves: the call's part of a step, as a table.
+-- Rooms: what the two ends' runs may be together. Sound: rooms speak for queues of any length. Explored: the rooms, found and tested.
+-- Marks: the blocks. Standing: both hold of every pair that is reached. Claim, Heard: the two claims.
 pub mod Words
 pub mod Events
 pub mod Moves
@@ -5,4 +9,6 @@ pub mod Rooms
 pub mod Sound
 pub mod Explored
 pub mod Marks
+pub mod Standing
 pub mod Claim
+pub mod Heard

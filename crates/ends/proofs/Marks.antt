@@ -4,18 +4,18 @@
 -- Assumes nothing.
 use mathlib.Core.Bool.{Bool, true, false, cond, not, _&&_, _||_}
 use mathlib.Core.List.{List, [], _∷_, _++_}
-use mathlib.Core.Path.{_≡_, refl, subst}
+use mathlib.Core.Path.{_≡_, refl}
 use Prim.Native.Nat.{ℕ}
 use lib.Dec.{T, eqb}
 use Rattle.circuit.specs.declared.Record.{Record}
 use Rattle.circuit.specs.declared.Signal.{Signal}
-use Rattle.circuit.specs.declared.Event.the-variants.{Arrives, Ordered, RunsOut}
+use Rattle.circuit.specs.declared.Event.the-variants.{Arrives}
 use Rattle.circuit.specs.declared.Outcome.{Outcome}
 use Rattle.circuit.specs.Records.{valid}
 use Rattle.circuit.specs.Rows.{first}
 use Rattle.circuit.specs.Every.{left, right, implies, then, eachBool, atBool}
 use Rattle.codes.specs.declared.Found.{Found}
-use Rattle.codes.specs.declared.Found.the-variants.{Is, Missing}
+use Rattle.codes.specs.declared.Found.the-variants.{Is}
 use Rattle.step.specs.Step.{step, stepFound}
 use Rattle.ends.specs.Ends.{End, does, inOrder, Pair, acted, arrival, When, When.anyTime, When.inSilence, When.losingAll, When.never, whenGiven, silence, emptied, given, marks, Happening, Happening.arrives, Happening.host, turn}
 use Rattle.ends.proofs.Words.{blo, ubl, rsc, word, heard, heard-more, sameBool}
@@ -54,7 +54,8 @@ told-fewer : (w : List ℕ) → T (not (told true w)) → T (not (told false w))
 told-fewer [] t = absurd t
 told-fewer (x ∷ w) t = by (eqb x blo) (eqb x ubl || eqb x rsc) t (told-fewer w)
   where
-    by : (a b : Bool) → T (not (told (cond a true (cond b false true)) w)) → (T (not (told true w)) → T (not (told false w))) → T (not (told (cond a true (cond b false false)) w))
+    by : (a b : Bool) → T (not (told (cond a true (cond b false true)) w)) → (T (not (told true w)) → T (not (told false w)))
+        → T (not (told (cond a true (cond b false false)) w))
     by true b t ih = t
     by false true t ih = t
     by false false t ih = ih t
@@ -71,14 +72,17 @@ reset-more (x ∷ w) o t = by (eqb x rsc) t (reset-more w o)
 abbrev farKept : (far new sent : Bool) → Bool
 farKept far new sent = sameBool new far || not new && sent
 
+abbrev wordsOf : Outcome → List ℕ
+wordsOf o = heard (inOrder (o .sends))
+
 -- m: the other's mark of this end when all has arrived; z, u: an RSC is on its way to this end, before and after
 abbrev keeps : Record → (m z u far : Bool) → Outcome → Bool
-keeps r m z u far o = implies (inStep (r .own) m z) (inStep (o .after .own) (told m (heard (inOrder (o .sends)))) u)
-    && (valid (o .after) && farKept far (o .after .far) (resetIn (heard (inOrder (o .sends)))))
+keeps r m z u far o = implies (inStep (r .own) m z) (inStep (o .after .own) (told m (wordsOf o)) u)
+    && (valid (o .after) && farKept far (o .after .far) (resetIn (wordsOf o)))
 
 -- with everything lost, there is nothing to keep: both marks are clear and an RSC goes out
 abbrev clears : Bool → Outcome → Bool
-clears m o = inStep (o .after .own) (told m (heard (inOrder (o .sends)))) false && (valid (o .after) && (not (o .after .far) && resetIn (heard (inOrder (o .sends)))))
+clears m o = inStep (o .after .own) (told m (wordsOf o)) false && (valid (o .after) && (not (o .after .far) && resetIn (wordsOf o)))
 
 abbrev wordKeeps : Bool → Record → ℕ → Bool
 wordKeeps c r k = eachBool (λ m. eachBool (λ z. keeps r m (eqb k rsc || z) z (marked (r .far) k) (does c r (Is (Arrives (said k))))))
@@ -108,7 +112,8 @@ in-step-more true false false sent u k h = absurd h
 in-step-more false m z sent u k h = h
 
 -- the other's block, when this end's far mark is kept or an RSC goes out
-back-kept : (own far new : Bool) (w : List ℕ) (z sent u : Bool) → (T (z || sent) → T u) → T (farKept far new sent) → T (inStep own (told far w) z) → T (inStep own (told new w) u)
+back-kept : (own far new : Bool) (w : List ℕ) (z sent u : Bool) → (T (z || sent) → T u) → T (farKept far new sent)
+    → T (inStep own (told far w) z) → T (inStep own (told new w) u)
 back-kept own true true w z sent u k f h = in-step-more own (told true w) z sent u k h
 back-kept own false false w z sent u k f h = in-step-more own (told false w) z sent u k h
 back-kept own false true w z sent u k f h = absurd f
@@ -127,22 +132,29 @@ back-kept own true false w z sent u k f h = by own z k h
 acts : (r : Record) (z : Bool) (rest : List Signal) (far : Bool) (other : End) (o : Outcome)
     → T (inStep (r .own) (told (other .holds .far) (heard (other .coming))) z)
     → T (inStep (other .holds .own) (told far (heard rest)) (resetIn (heard (other .coming))))
-    → T (valid (other .holds)) → T (keeps r (told (other .holds .far) (heard (other .coming))) z (resetIn (heard rest)) far o) → MarksPair (acted o rest other)
+    → T (valid (other .holds)) → T (keeps r (told (other .holds .far) (heard (other .coming))) z (resetIn (heard rest)) far o)
+    → MarksPair (acted o rest other)
 acts r z rest far other o there back yours test = record {
-  there = rw (heard-more (other .coming) (inOrder (o .sends)), told-more (other .holds .far) (heard (other .coming)) (heard (inOrder (o .sends)))) (then (inStep (r .own) M z) _ (left (implies (inStep (r .own) M z) (inStep (o .after .own) (told M sent) (resetIn (heard rest)))) _ test) there);
-  back = rw (heard-more (other .coming) (inOrder (o .sends))) (back-kept (other .holds .own) far (o .after .far) (heard rest) (resetIn (heard (other .coming))) (resetIn sent) _ (reset-more (heard (other .coming)) sent) (right (valid (o .after)) _ two) back);
+  there = rw (more, told-more (other .holds .far) due (wordsOf o)) (then (inStep (r .own) M z) _ (left kept _ test) there);
+  back = rw more (back-kept (other .holds .own) far (o .after .far) (heard rest) (resetIn due) (resetIn (wordsOf o)) _ (reset-more due (wordsOf o)) (right (valid (o .after)) _ two) back);
   mine = left (valid (o .after)) _ two;
   yours = yours;
 }
   where
+    due : List ℕ
+    due = heard (other .coming)
+
     M : Bool
-    M = told (other .holds .far) (heard (other .coming))
+    M = told (other .holds .far) due
 
-    sent : List ℕ
-    sent = heard (inOrder (o .sends))
+    more : heard (other .coming ++ inOrder (o .sends)) ≡ due ++ wordsOf o
+    more = heard-more (other .coming) (inOrder (o .sends))
 
-    two : T (valid (o .after) && farKept far (o .after .far) (resetIn sent))
-    two = right (implies (inStep (r .own) M z) (inStep (o .after .own) (told M sent) (resetIn (heard rest)))) _ test
+    kept : Bool
+    kept = implies (inStep (r .own) M z) (inStep (o .after .own) (told M (wordsOf o)) (resetIn (heard rest)))
+
+    two : T (valid (o .after) && farKept far (o .after .far) (resetIn (wordsOf o)))
+    two = right kept _ test
 
 module _ (c : Bool) (other : End) where
   abbrev N : Bool
@@ -151,27 +163,28 @@ module _ (c : Bool) (other : End) where
   arrived : (r : Record) (q : List Signal) → Marks (record { holds = r; coming = q }) other → MarksPair (arrival c r q other)
   arrived r [] i = i
   arrived r (x ∷ rest) i = acts r (eqb (word x) rsc || Z) rest (marked (r .far) (word x)) other (does c r (Is (Arrives x))) (i .there) (i .back) (i .yours)
-      (rw (alike c r x) (atBool (λ z. keeps r N (eqb (word x) rsc || z) z (marked (r .far) (word x)) O) (atBool (λ m. eachBool (λ z. keeps r m (eqb (word x) rsc || z) z (marked (r .far) (word x)) O))
-      (atWord wordKeeps hostKeeps kept-in-step c r (i .mine) x) N) Z))
+      (rw (alike c r x) (atBool (keeping N) (atBool (λ m. eachBool (keeping m)) (atWord wordKeeps hostKeeps kept-in-step c r (i .mine) x) N) Z))
     where
       Z : Bool
       Z = resetIn (heard rest)
 
-      O : Outcome
-      O = does c r (Is (Arrives (said (word x))))
+      keeping : Bool → Bool → Bool
+      keeping m z = keeps r m (eqb (word x) rsc || z) z (marked (r .far) (word x)) (does c r (Is (Arrives (said (word x)))))
 
   -- everything on its way is lost
   lost : (o : Outcome) → T (valid (other .holds)) → T (eachBool (λ m. clears m o)) → MarksPair (acted o [] (emptied other))
-  lost o yours test = record { there = left (inStep (o .after .own) (told (other .holds .far) sent) false) _ one; back = by (other .holds .own) (o .after .far) (resetIn sent) (right (valid (o .after)) _ two); mine = left (valid (o .after)) _ two; yours = yours }
+  lost o yours test = record {
+    there = left (inStep (o .after .own) (told (other .holds .far) (wordsOf o)) false) _ one;
+    back = by (other .holds .own) (o .after .far) (resetIn (wordsOf o)) (right (valid (o .after)) _ two);
+    mine = left (valid (o .after)) _ two;
+    yours = yours;
+  }
     where
-      sent : List ℕ
-      sent = heard (inOrder (o .sends))
-
       one : T (clears (other .holds .far) o)
       one = atBool (λ m. clears m o) test (other .holds .far)
 
-      two : T (valid (o .after) && (not (o .after .far) && resetIn sent))
-      two = right (inStep (o .after .own) (told (other .holds .far) sent) false) _ one
+      two : T (valid (o .after) && (not (o .after .far) && resetIn (wordsOf o)))
+      two = right (inStep (o .after .own) (told (other .holds .far) (wordsOf o)) false) _ one
 
       by : (own far z : Bool) → T (not far && z) → T (inStep own far z)
       by true false true t = tt
@@ -182,7 +195,10 @@ module _ (c : Bool) (other : End) where
 
   plainly : (me : End) → Marks me other → (o : Outcome) → T (hostKeepsWhen anyTime (me .holds) o) → MarksPair (acted o (me .coming) other)
   plainly me i o test = acts (me .holds) (resetIn (heard (me .coming))) (me .coming) (me .holds .far) other o (i .there) (i .back) (i .yours)
-      (atBool (λ z. keeps (me .holds) N z z (me .holds .far) o) (atBool (λ m. eachBool (λ z. keeps (me .holds) m z z (me .holds .far) o)) test N) (resetIn (heard (me .coming))))
+      (atBool (keeping N) (atBool (λ m. eachBool (keeping m)) test N) (resetIn (heard (me .coming))))
+    where
+      keeping : Bool → Bool → Bool
+      keeping m z = keeps (me .holds) m z z (me .holds .far) o
 
   hosted : (me : End) → Marks me other → (e : Found) (w : When) → T (hostKeepsWhen w (me .holds) (does c (me .holds) e)) → MarksPair (given w c e me other)
   hosted me i e anyTime test = plainly me i (does c (me .holds) e) test
@@ -202,8 +218,11 @@ pub swapped : {x y : End} → Marks x y → Marks y x
 swapped i = record { there = i .back; back = i .there; mine = i .yours; yours = i .mine }
 
 -- with nothing on its way, the far mark is the other's block
-at-rest : T (eachBool (λ own. eachBool (λ far. implies (inStep own far false) (marks far own))))
+abbrev settled : Bool → Bool → Bool
+settled own far = implies (inStep own far false) (marks far own)
+
+at-rest : T (eachBool (λ own. eachBool (settled own)))
 at-rest = tt
 
 pub known : (own far : Bool) → T (inStep own far false) → T (marks far own)
-known own far = then (inStep own far false) (marks far own) (atBool (λ far. implies (inStep own far false) (marks far own)) (atBool (λ own. eachBool (λ far. implies (inStep own far false) (marks far own))) at-rest own) far)
+known own far = then (inStep own far false) (marks far own) (atBool (settled own) (atBool (λ own. eachBool (settled own)) at-rest own) far)

@@ -1,24 +1,24 @@
 -- A move is the call's part of what an end does: its new state and the words that it sends. A table lists the moves that are possible in each
 -- state, whatever the flags, and is computed from what an end does.
 -- Assumes nothing.
-use mathlib.Core.Bool.{Bool, true, false, cond, not, _&&_, _||_}
+use mathlib.Core.Bool.{Bool, true, false, cond, _&&_}
 use mathlib.Core.List.{List, [], _∷_, _++_}
-use mathlib.Core.Path.{_≡_, refl, subst}
+use mathlib.Core.Path.{_≡_}
 use Prim.Native.Nat.{ℕ, zero, suc}
 use lib.Dec.{T, eqb, eqb→eq}
 use lib.ListN.{getD}
 use Rattle.circuit.specs.declared.Record.{Record}
 use Rattle.circuit.specs.declared.Signal.{Signal}
-use Rattle.circuit.specs.declared.Event.the-variants.{Arrives, Ordered, RunsOut}
+use Rattle.circuit.specs.declared.Event.the-variants.{Arrives}
 use Rattle.circuit.specs.declared.Outcome.{Outcome}
 use Rattle.circuit.specs.Records.{rec, valid}
 use Rattle.circuit.specs.Rows.{first}
 use Rattle.circuit.specs.Every.{left, right}
 use Rattle.codes.specs.declared.Found.{Found}
-use Rattle.codes.specs.declared.Found.the-variants.{Is, Missing}
+use Rattle.codes.specs.declared.Found.the-variants.{Is}
 use Rattle.step.specs.Step.{step, stepFound}
 use Rattle.ends.specs.Ends.{does, inOrder, When, When.anyTime, When.inSilence, When.losingAll, When.never, whenGiven}
-use Rattle.ends.proofs.Words.{word, words, heard, sameList, same-list}
+use Rattle.ends.proofs.Words.{word, heard, member, sameList, same-list}
 use Rattle.ends.proofs.Events.{said, alike, hostEvents, everywhere, atWord, atHost}
 
 pub data Move : Type 0 where
@@ -37,8 +37,7 @@ same-move (to s o) (to t u) h =
     cc
 
 abbrev pub among : Move → List Move → Bool
-among a [] = false
-among a (b ∷ l) = sameMove a b || among a l
+among a l = member sameMove a l
 
 -- The moves by role, state and cause: a word that arrives, 0..12, or what the host gives
 abbrev pub Table : Type 0
@@ -83,8 +82,11 @@ abbrev overBools : (Bool → List Move → List Move) → List Move → List Mov
 overBools f l = f true (f false l)
 
 -- with every set of flags that is allowed in state s
+abbrev ifValid : (Record → List Move → List Move) → Record → List Move → List Move
+ifValid f r l = cond (valid r) (f r l) l
+
 abbrev overFlags : ℕ → (Record → List Move → List Move) → List Move
-overFlags s f = overBools (λ own. overBools (λ far. overBools (λ bla. overBools (λ uba l. cond (valid (rec s own far bla uba)) (f (rec s own far bla uba) l) l)))) []
+overFlags s f = overBools (λ own. overBools (λ far. overBools (λ bla. overBools (λ uba. ifValid f (rec s own far bla uba))))) []
 
 abbrev putHost : Bool → ℕ → Record → List Found → List Move → List Move
 putHost c k r [] l = l

@@ -3,10 +3,10 @@
 -- Assumes nothing.
 use mathlib.Core.Bool.{Bool, true, false, cond, not, _&&_, _||_}
 use mathlib.Core.List.{List, [], _∷_, _++_}
-use Prim.Native.Nat.{ℕ, zero, suc}
-use lib.Dec.{T, eqb, leb}
-use Rattle.ends.specs.Ends.{sameStage, unheard, When.anyTime, When.inSilence, When.losingAll}
-use Rattle.ends.proofs.Words.{words, blo, mute, quiet, next, Run, Run.ran, run, restOf, Half, Half.half, sameHalf, joinAll, endOf, reach, outgoing, allIn, has, family, absorbs}
+use Prim.Native.Nat.{ℕ}
+use lib.Dec.{eqb}
+use Rattle.ends.specs.Ends.{sameStage, awaits, unheard, When.anyTime, When.inSilence, When.losingAll}
+use Rattle.ends.proofs.Words.{words, blo, mute, quiet, next, Run, Run.ran, run, restOf, Half, Half.half, sameHalf, joinAll, endOf, reach, outgoing, allIn, member, has, family, absorbs}
 use Rattle.ends.proofs.Events.{said}
 use Rattle.ends.proofs.Moves.{Move, Move.to, Table, causeOf}
 
@@ -22,32 +22,32 @@ abbrev pub over : {A : Type 0} → (A → List Need) → List A → List Need
 over f [] = []
 over f (x ∷ l) = f x ++ over f l
 
--- an end (role c, state s, run r, a BLO on its way b) makes a move, with y the other end
-module _ (c : Bool) (s : ℕ) (r : Run) (b : Bool) (y : Half) where
-  -- it comes to state n with the run q; in state 1 a BLO may be on its way or not
-  abbrev pub comes : ℕ → Run → List ℕ → List Need
-  comes n q o = room (half n q false) (joinAll (not c) y o) ∷ cond (eqb n 1) (room (half n q true) (joinAll (not c) y o) ∷ []) []
+-- the other end's half is y: the end of role c comes to state n with the run q and sends o; in state 1 a BLO may be on its way to it or not
+abbrev pub comes : (c : Bool) → (y : Half) → ℕ → Run → List ℕ → List Need
+comes c y n q o = room (half n q false) (joinAll (not c) y o) ∷ cond (eqb n 1) (room (half n q true) (joinAll (not c) y o) ∷ []) []
 
+-- an end of role c makes a move: its state s, its run r, and whether a BLO is on its way to it, b
+module _ (c : Bool) (y : Half) (s : ℕ) (r : Run) (b : Bool) where
   abbrev pub stays : List ℕ → List Need
   stays o = room (half s r b) (joinAll (not c) y o) ∷ []
 
-  -- its queue is as it was, but for mute words; sure: not for a BLO
+  -- its queue is as it was, but for a mute word; sure: that was no BLO
   abbrev pub goes : Bool → Move → List Need
   goes sure (to n o) = cond (eqb n s && (sure || not (eqb n 1))) (stays o)
-      (cond (has s (family s) && absorbs c n (family s)) (comes n (run c n (restOf r)) o) (impossible ∷ []))
+      (cond (has s (family s) && absorbs c n (family s)) (comes c y n (run c n (restOf r)) o) (impossible ∷ []))
 
   -- it takes the quiet word x; where its call goes on, the run ends in a state that can still be reached
   abbrev pub glides : ℕ → Move → List Need
   glides x (to n o) = cond (eqb n (next s x)) (cond (eqb n s) (stays o)
-      (cond (has n outgoing) (cond (has (endOf r) (reach n)) (comes n r o) []) (impossible ∷ []))) (impossible ∷ [])
+      (cond (has n outgoing) (cond (has (endOf r) (reach n)) (comes c y n r o) []) (impossible ∷ []))) (impossible ∷ [])
 
-  -- it takes the word x from the head of its run's rest
-  abbrev pub takesRest : Run → ℕ → Move → List Need
-  takesRest (ran p []) x mv = []
-  takesRest (ran p (z ∷ u)) x (to n o) = cond (eqb s p && eqb x z) (comes n (run c n u) o) []
+-- it takes the word x from the head of its run's rest
+abbrev pub takesRest : (c : Bool) → (y : Half) → ℕ → Run → ℕ → Move → List Need
+takesRest c y s (ran p []) x mv = []
+takesRest c y s (ran p (z ∷ u)) x (to n o) = cond (eqb s p && eqb x z) (comes c y n (run c n u) o) []
 
-  abbrev pub takes : ℕ → Move → List Need
-  takes x mv = cond (mute x) (goes (not (eqb x blo)) mv) (cond (quiet c s x) (glides x mv) (takesRest r x mv))
+abbrev pub takes : (c : Bool) → (y : Half) → ℕ → Run → Bool → ℕ → Move → List Need
+takes c y s r b x mv = cond (mute x) (goes c y s r b (not (eqb x blo)) mv) (cond (quiet c s x) (glides c y s r b x mv) (takesRest c y s r x mv))
 
 -- both queues are empty, and the end makes a move
 abbrev pub afresh : Bool → Half → Move → List Need
@@ -57,27 +57,29 @@ abbrev pub nothingComes : Half → Bool
 nothingComes (half s (ran p []) b) = eqb s p && not b
 nothingComes (half s (ran p (x ∷ u)) b) = false
 
-abbrev pub byWords : Table → Bool → ℕ → Run → Bool → Half → List Need
-byWords m c s r b y = over (λ x. over (takes c s r b y x) (m c s x)) words
+-- what happens at the end `half s r b`
+module _ (m : Table) (c : Bool) (y : Half) (s : ℕ) (r : Run) (b : Bool) where
+  abbrev pub byWords : List Need
+  byWords = over (λ x. over (takes c y s r b x) (m c s x)) words
 
-abbrev pub byHost : Table → Bool → ℕ → Run → Bool → Half → List Need
-byHost m c s r b y = over (goes c s r b y true) (m c s (causeOf anyTime))
+  abbrev pub byHost : List Need
+  byHost = over (goes c y s r b true) (m c s (causeOf anyTime))
 
-abbrev pub byLoss : Table → Bool → ℕ → Half → List Need
-byLoss m c s y = over (afresh c y) (m c s (causeOf losingAll))
+  abbrev pub byLoss : List Need
+  byLoss = over (afresh c y) (m c s (causeOf losingAll))
 
-abbrev pub bySilence : Table → Bool → ℕ → Half → Half → List Need
-bySilence m c s h y = cond (nothingComes h && nothingComes y) (over (afresh c y) (m c s (causeOf inSilence))) []
+  abbrev pub bySilence : List Need
+  bySilence = cond (nothingComes (half s r b) && nothingComes y) (over (afresh c y) (m c s (causeOf inSilence))) []
 
--- whatever happens at an end
 unfoldable pub follows : Table → Bool → Half → Half → List Need
-follows m c (half s r b) y = byWords m c s r b y ++ (byHost m c s r b y ++ (byLoss m c s y ++ bySilence m c s (half s r b) y))
+follows m c (half s r b) y = byWords m c y s r b ++ (byHost m c y s r b ++ (byLoss m c y s r b ++ bySilence m c y s r b))
 
 -- what a room must fulfil by itself
 
 -- with nothing on its way and neither end in 5 or 12, the same stage
 abbrev pub agrees : Half → Half → Bool
-agrees (half s r b) (half t q d) = not (nothingComes (half s r b) && nothingComes (half t q d)) || (eqb s 5 || eqb s 12 || (eqb t 5 || eqb t 12) || (sameStage s t || sameStage t s))
+agrees (half s r b) (half t q d) = not (nothingComes (half s r b) && nothingComes (half t q d))
+    || (awaits s || awaits t || (sameStage s t || sameStage t s))
 
 -- what arrives next is no signal that is never heard
 abbrev pub hears : Half → Bool
@@ -87,14 +89,13 @@ hears (half s (ran p (x ∷ u)) b) = not (eqb s p && unheard s (said x))
 abbrev pub sound : Room → Bool
 sound r = agrees (r .0) (r .1) && (hears (r .0) && hears (r .1))
 
--- a list of rooms; what a `let` binds and the cases of an `elim` are computed only where they are read
+-- a list of rooms
 
 abbrev pub sameRoom : Room → Room → Bool
 sameRoom r q = sameHalf (r .0) (q .0) && sameHalf (r .1) (q .1)
 
 abbrev pub listed : List Room → Room → Bool
-listed [] q = false
-listed (r ∷ l) q = let rest = listed l q in sameRoom r q || rest
+listed l r = member sameRoom r l
 
 abbrev pub inRole : Bool → Half → Half → Room
 inRole true me you = (me, you)

@@ -3,12 +3,12 @@
 -- Assumes nothing.
 use mathlib.Core.Bool.{Bool, true, false, cond, not, _&&_, _||_}
 use mathlib.Core.List.{List, [], _∷_, _++_, append-assoc, append-nil}
-use mathlib.Core.Path.{_≡_, refl, ap, sym, _∙_, subst}
-use Prim.Native.Nat.{ℕ, zero, suc}
+use mathlib.Core.Path.{_≡_, refl, ap, sym, _∙_}
+use Prim.Native.Nat.{ℕ, suc}
 use lib.Dec.{T, eqb, leb, eqb→eq}
 use Rattle.circuit.specs.declared.Signal.{Signal}
 use Rattle.circuit.specs.declared.Signal.the-variants.{Iam, Acm, Anc, Ann, Cbk, Clf, Ran, Rlg, Blo, Bla, Ubl, Uba, Rsc, Fail}
-use Rattle.circuit.specs.Every.{left, right, atBool}
+use Rattle.circuit.specs.Every.{left, right, eachBool, atBool}
 
 -- The words. ANC and ANN are one, and so are the failures. The four that change no call come last, and state s of an outgoing call goes on by
 -- word s: 1 by ACM, 2 by an answer, 3 by CBK, 4 by RAN.
@@ -66,9 +66,25 @@ abbrev pub allIn : {A : Type 0} → (A → Bool) → List A → Bool
 allIn f [] = true
 allIn f (x ∷ l) = f x && allIn f l
 
+-- a test of equality, and membership by it; what a `let` binds is computed only where it is read, so the search stops at the first hit
+abbrev pub member : {A : Type 0} → (A → A → Bool) → A → List A → Bool
+member same a [] = false
+member same a (x ∷ l) = let rest = member same a l in same a x || rest
+
+pub at-member : {A : Type 0} (same : A → A → Bool) → ((a b : A) → T (same a b) → a ≡ b)
+    → (f : A → Bool) (l : List A) (a : A) → T (member same a l) → T (allIn f l) → T (f a)
+at-member same really f [] a h t = absurd h
+at-member same really f (x ∷ l) a h t = by (same a x) (really a x) h (λ g. at-member same really f l a g (right (f x) (allIn f l) t))
+  where
+    by : (b : Bool) → (T b → a ≡ x) → T (b || member same a l) → (T (member same a l) → T (f a)) → T (f a)
+    by true e g k = rw (e tt) (left (f x) (allIn f l) t)
+    by false e g k = k g
+
 abbrev pub has : ℕ → List ℕ → Bool
-has x [] = false
-has x (y ∷ l) = eqb x y || has x l
+has x l = member eqb x l
+
+pub at-has : (f : ℕ → Bool) (l : List ℕ) (x : ℕ) → T (has x l) → T (allIn f l) → T (f x)
+at-has = at-member eqb eqb→eq
 
 pub both : (a b : Bool) → T a → T b → T (a && b)
 both true b s t = t
@@ -77,14 +93,6 @@ both false b s t = absurd s
 pub is-true : (a : Bool) → T a → a ≡ true
 is-true true t = refl
 is-true false t = absurd t
-
-pub at-has : (f : ℕ → Bool) (l : List ℕ) (x : ℕ) → T (has x l) → T (allIn f l) → T (f x)
-at-has f [] x h t = absurd h
-at-has f (y ∷ l) x h t = by (eqb x y) (eqb→eq x y) h (λ g. at-has f l x g (right (f y) (allIn f l) t))
-  where
-    by : (b : Bool) → (T b → x ≡ y) → T (b || has x l) → (T (has x l) → T (f x)) → T (f x)
-    by true e g k = rw (e tt) (left (f y) (allIn f l) t)
-    by false e g k = k g
 
 abbrev pub sameList : List ℕ → List ℕ → Bool
 sameList [] [] = true
@@ -147,8 +155,14 @@ endOf (ran p u) = p
 pub data Half : Type 0 where
   half : ℕ → Run → Bool → Half
 
+abbrev pub bloFor : ℕ → List ℕ → Bool
+bloFor s w = bloIn w && eqb s 1
+
+abbrev pub runOf : (c : Bool) → ℕ → List ℕ → Run
+runOf c s w = run c s (kept w)
+
 abbrev pub view : (c : Bool) → ℕ → List ℕ → Half
-view c s w = half s (run c s (kept w)) (bloIn w && eqb s 1)
+view c s w = half s (runOf c s w) (bloFor s w)
 
 -- halves compared
 
@@ -199,7 +213,8 @@ run-more : (c : Bool) (s : ℕ) (u : List ℕ) (k : ℕ) → runMore c (run c s 
 run-more c s [] k = refl
 run-more c s (x ∷ u) k = by (quiet c s x) (run-more c (next s x) u k)
   where
-    by : (q : Bool) → runMore c (run c (next s x) u) k ≡ run c (next s x) (u ++ (k ∷ [])) → runMore c (cond q (run c (next s x) u) (ran s (x ∷ u))) k ≡ cond q (run c (next s x) (u ++ (k ∷ []))) (ran s (x ∷ (u ++ (k ∷ []))))
+    by : (q : Bool) → runMore c (run c (next s x) u) k ≡ run c (next s x) (u ++ (k ∷ []))
+        → runMore c (cond q (run c (next s x) u) (ran s (x ∷ u))) k ≡ cond q (run c (next s x) (u ++ (k ∷ []))) (ran s (x ∷ (u ++ (k ∷ []))))
     by true ih = ih
     by false ih = refl
 
@@ -207,7 +222,8 @@ kept-more : (w : List ℕ) (x : ℕ) → kept (w ++ (x ∷ [])) ≡ cond (mute x
 kept-more [] x = refl
 kept-more (y ∷ w) x = rw (kept-more w x) (by (mute y) (mute x))
   where
-    by : (a b : Bool) → cond a (cond b (kept w) (kept w ++ (x ∷ []))) (y ∷ cond b (kept w) (kept w ++ (x ∷ []))) ≡ cond b (cond a (kept w) (y ∷ kept w)) (cond a (kept w) (y ∷ kept w) ++ (x ∷ []))
+    by : (a b : Bool) → cond a (cond b (kept w) (kept w ++ (x ∷ []))) (y ∷ cond b (kept w) (kept w ++ (x ∷ [])))
+        ≡ cond b (cond a (kept w) (y ∷ kept w)) (cond a (kept w) (y ∷ kept w) ++ (x ∷ []))
     by true true = refl
     by true false = refl
     by false true = refl
@@ -235,11 +251,11 @@ share false b d = refl
 -- the half after a word is the view of the longer queue
 joined-one : (c : Bool) (s : ℕ) (w : List ℕ) (x : ℕ) → join c (view c s w) x ≡ view c s (w ++ (x ∷ []))
 joined-one c s w x =
-    let e : cond (mute x) (run c s (kept w)) (runMore c (run c s (kept w)) x) ≡ run c s (kept (w ++ (x ∷ []))) = rw (kept-more w x) (by (mute x)) in
-    let f : (bloIn w && eqb s 1 || eqb x blo && eqb s 1) ≡ (bloIn (w ++ (x ∷ [])) && eqb s 1) = rw (blo-more w x) (share (bloIn w) (eqb x blo) (eqb s 1)) in
+    let e : cond (mute x) (runOf c s w) (runMore c (runOf c s w) x) ≡ runOf c s (w ++ (x ∷ [])) = rw (kept-more w x) (by (mute x)) in
+    let f : (bloFor s w || eqb x blo && eqb s 1) ≡ bloFor s (w ++ (x ∷ [])) = rw (blo-more w x) (share (bloIn w) (eqb x blo) (eqb s 1)) in
     cc
   where
-    by : (m : Bool) → cond m (run c s (kept w)) (runMore c (run c s (kept w)) x) ≡ run c s (cond m (kept w) (kept w ++ (x ∷ [])))
+    by : (m : Bool) → cond m (runOf c s w) (runMore c (runOf c s w) x) ≡ run c s (cond m (kept w) (kept w ++ (x ∷ [])))
     by true = refl
     by false = run-more c s (kept w) x
 
@@ -257,18 +273,21 @@ abbrev pub family : ℕ → List ℕ
 family s = cond (has s outgoing) outgoing (s ∷ [])
 
 -- t takes quietly, and stays, whatever these states take quietly
+abbrev absorbsWord : (c : Bool) → ℕ → List ℕ → ℕ → ℕ → Bool
+absorbsWord c t l s x = has (next s x) l && (quiet c t x && eqb (next t x) t)
+
 abbrev pub absorbs : (c : Bool) → ℕ → List ℕ → Bool
-absorbs c t l = allIn (λ s. allIn (λ x. has (next s x) l && (quiet c t x && eqb (next t x) t)) (quietIn c s)) l
+absorbs c t l = allIn (λ s. allIn (absorbsWord c t l s) (quietIn c s)) l
 
 -- then the run from t starts behind the run from s
 pub run-absorbs : (c : Bool) (t : ℕ) (l : List ℕ) → T (absorbs c t l) → (s : ℕ) → T (has s l) → (u : List ℕ) → run c t u ≡ run c t (restOf (run c s u))
 run-absorbs c t l a s m [] = refl
-run-absorbs c t l a s m (x ∷ u) = by (quiet c s x) (λ q. at-has (λ y. has (next s y) l && (quiet c t y && eqb (next t y) t)) (quietIn c s) x q all) (λ n. run-absorbs c t l a (next s x) n u)
+run-absorbs c t l a s m (x ∷ u) = by (quiet c s x) (λ q. at-has (absorbsWord c t l s) (quietIn c s) x q all) (λ n. run-absorbs c t l a (next s x) n u)
   where
-    all : T (allIn (λ y. has (next s y) l && (quiet c t y && eqb (next t y) t)) (quietIn c s))
-    all = at-has (λ r. allIn (λ y. has (next r y) l && (quiet c t y && eqb (next t y) t)) (quietIn c r)) l s m a
+    all : T (allIn (absorbsWord c t l s) (quietIn c s))
+    all = at-has (λ r. allIn (absorbsWord c t l r) (quietIn c r)) l s m a
 
-    by : (q : Bool) → (T q → T (has (next s x) l && (quiet c t x && eqb (next t x) t))) → (T (has (next s x) l) → run c t u ≡ run c t (restOf (run c (next s x) u)))
+    by : (q : Bool) → (T q → T (absorbsWord c t l s x)) → (T (has (next s x) l) → run c t u ≡ run c t (restOf (run c (next s x) u)))
         → run c t (x ∷ u) ≡ run c t (restOf (cond q (run c (next s x) u) (ran s (x ∷ u))))
     by false e ih = refl
     by true e ih =
@@ -281,23 +300,28 @@ run-absorbs c t l a s m (x ∷ u) = by (quiet c s x) (λ q. at-has (λ y. has (n
 abbrev pub reach : ℕ → List ℕ
 reach s = cond (eqb s 1) outgoing (cond (eqb s 2) (2 ∷ 3 ∷ 4 ∷ []) (3 ∷ 4 ∷ []))
 
-abbrev onward : Bool → ℕ → Bool
-onward c s = has s (reach s) && allIn (λ x. has (next s x) outgoing && allIn (λ p. has p (reach s)) (reach (next s x))) (quietIn c s)
+abbrev onwardBy : ℕ → ℕ → Bool
+onwardBy s x = has (next s x) outgoing && allIn (λ p. has p (reach s)) (reach (next s x))
+
+abbrev onward : (c : Bool) → ℕ → Bool
+onward c s = has s (reach s) && allIn (onwardBy s) (quietIn c s)
+
+all-onward : T (eachBool (λ c. allIn (onward c) outgoing))
+all-onward = tt
 
 pub run-ends : (c : Bool) (s : ℕ) → T (has s outgoing) → (u : List ℕ) → T (has (endOf (run c s u)) (reach s))
 run-ends c s m u = go u s m
   where
-    test : T (allIn (onward c) outgoing)
-    test = atBool (λ c. allIn (onward c) outgoing) tt c
+    at : (s : ℕ) → T (has s outgoing) → T (onward c s)
+    at s m = at-has (onward c) outgoing s m (atBool (λ c. allIn (onward c) outgoing) all-onward c)
 
     go : (u : List ℕ) (s : ℕ) → T (has s outgoing) → T (has (endOf (run c s u)) (reach s))
-    go [] s m = left (has s (reach s)) _ (at-has (onward c) outgoing s m test)
-    go (x ∷ u) s m = by (quiet c s x) (λ q. at-has (λ x. has (next s x) outgoing && allIn (λ p. has p (reach s)) (reach (next s x))) (quietIn c s) x q (right (has s (reach s)) _ here)) (λ n. go u (next s x) n)
+    go [] s m = left (has s (reach s)) _ (at s m)
+    go (x ∷ u) s m = by (quiet c s x) (λ q. at-has (onwardBy s) (quietIn c s) x q (right (has s (reach s)) _ (at s m))) (λ n. go u (next s x) n)
       where
-        here : T (onward c s)
-        here = at-has (onward c) outgoing s m test
-
-        by : (q : Bool) → (T q → T (has (next s x) outgoing && allIn (λ p. has p (reach s)) (reach (next s x)))) → (T (has (next s x) outgoing) → T (has (endOf (run c (next s x) u)) (reach (next s x))))
+        by : (q : Bool) → (T q → T (onwardBy s x)) → (T (has (next s x) outgoing) → T (has (endOf (run c (next s x) u)) (reach (next s x))))
             → T (has (endOf (cond q (run c (next s x) u) (ran s (x ∷ u)))) (reach s))
-        by false e ih = left (has s (reach s)) _ here
-        by true e ih = at-has (λ p. has p (reach s)) (reach (next s x)) (endOf (run c (next s x) u)) (ih (left (has (next s x) outgoing) _ (e tt))) (right (has (next s x) outgoing) _ (e tt))
+        by false e ih = left (has s (reach s)) _ (at s m)
+        by true e ih =
+            let i : T (has (endOf (run c (next s x) u)) (reach (next s x))) = ih (left (has (next s x) outgoing) _ (e tt)) in
+            at-has (λ p. has p (reach s)) (reach (next s x)) (endOf (run c (next s x) u)) i (right (has (next s x) outgoing) _ (e tt))

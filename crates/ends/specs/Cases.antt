@@ -1,6 +1,6 @@
 -- Pairs of ends that are reached, each with the steps that lead to it: the claims of `Ends` do not speak of nothing.
 -- Assumes nothing.
-use mathlib.Core.Bool.{Bool, true, false}
+use mathlib.Core.Bool.{true, false}
 use mathlib.Core.List.{List, [], _∷_, _++_}
 use mathlib.Core.Path.{_≡_, refl}
 use Prim.Native.Nat.{ℕ}
@@ -10,7 +10,7 @@ use Rattle.circuit.specs.Records.{rec, plain}
 use Rattle.circuit.specs.Rows.{first}
 use Rattle.codes.specs.Numbers.{eventOf}
 use Rattle.step.specs.Step.{step, stepFound}
-use Rattle.ends.specs.Ends.{End, idle, does, Pair, Happening, Happening.arrives, Happening.host, turn, Reached, Reached.start, Reached.atFirst, Reached.atSecond}
+use Rattle.ends.specs.Ends.{End, idle, does, Pair, When, When.anyTime, When.inSilence, When.losingAll, whenGiven, Happening, Happening.arrives, Happening.host, turn, Reached, Reached.start, Reached.atFirst, Reached.atSecond}
 
 -- what happens at the controlling end, or at the other
 pub data Step : Type 0 where
@@ -33,6 +33,20 @@ command code detail = host (eventOf 2 code detail)
 
 abbrev timer : ℕ → Happening
 timer code = host (eventOf 3 code 0)
+
+-- command 10 loses all, timers 4, 5 and 6 wait for silence, the others come at any time; here with detail 0
+abbrev times : ℕ → List ℕ → List When
+times kind [] = []
+times kind (code ∷ codes) = whenGiven (eventOf kind code 0) ∷ times kind codes
+
+pub commandTimes : times 2 (1 ∷ 2 ∷ 3 ∷ 4 ∷ 5 ∷ 6 ∷ 8 ∷ 9 ∷ 10 ∷ [])
+    ≡ anyTime ∷ anyTime ∷ anyTime ∷ anyTime ∷ anyTime ∷ anyTime ∷ anyTime ∷ anyTime ∷ losingAll ∷ []
+unfolding eventOf
+commandTimes = refl
+
+pub timerTimes : times 3 (1 ∷ 2 ∷ 3 ∷ 4 ∷ 5 ∷ 6 ∷ []) ≡ anyTime ∷ anyTime ∷ anyTime ∷ inSilence ∷ inSilence ∷ inSilence ∷ []
+unfolding eventOf
+timerTimes = refl
 
 -- seize, address complete with subscriber free, answer
 abbrev answered : List Step

@@ -122,8 +122,11 @@ abbrev pub sameStage : ℕ → ℕ → Bool
 sameStage p q = eqb p 0 && eqb q 0 || eqb p 1 && eqb q 6 || eqb p 2 && (eqb q 7 || eqb q 8) || eqb p 3 && eqb q 9 || eqb p 4 && eqb q 10
 
 -- awaiting release-guard or reset
+abbrev pub awaits : ℕ → Bool
+awaits p = eqb p 5 || eqb p 12
+
 abbrev pub awaiting : End → Bool
-awaiting e = eqb (e .holds .state) 5 || eqb (e .holds .state) 12
+awaiting e = awaits (e .holds .state)
 
 -- the far-block mark of one end equals the own block of the other
 abbrev pub marks : (far own : Bool) → Bool

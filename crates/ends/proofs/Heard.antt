@@ -1,0 +1,91 @@
+-- Signals that never arrive between two ends of one circuit: they are neither quiet nor at the head of a room's rest.
+-- Assumes nothing.
+use mathlib.Core.Bool.{Bool, true, false, cond, not, _&&_, _||_}
+use mathlib.Core.List.{List, _∷_}
+use mathlib.Core.Path.{_≡_, refl}
+use Prim.Native.Nat.{ℕ, suc-le-suc}
+use lib.Dec.{T, eqb, leb, leb→le, eqb-refl}
+use Rattle.circuit.specs.declared.Signal.{Signal}
+use Rattle.circuit.specs.declared.Signal.the-variants.{Iam, Acm, Anc, Ann, Cbk, Clf, Ran, Rlg, Blo, Bla, Ubl, Uba, Rsc, Fail}
+use Rattle.circuit.specs.Records.{valid}
+use Rattle.circuit.specs.Every.{left, right, eachBool, atBool, eachBelow, atBelow}
+use Rattle.ends.specs.Ends.{End, Reached, unheard, NextIsHeard, ClaimUnheard}
+use Rattle.ends.proofs.Words.{word, words, heard, mute, quiet, kept, run, runOf, next, Run, Run.ran, Half, Half.half, view, bloFor, allIn, at-has, is-true}
+use Rattle.ends.proofs.Events.{isWord, said}
+use Rattle.ends.proofs.Rooms.{agrees, hears}
+use Rattle.ends.proofs.Sound.{sound-here}
+use Rattle.ends.proofs.Explored.{rooms}
+use Rattle.ends.proofs.Standing.{table, shut, stateOf, due, Holds, holds, inEitherRole}
+
+same-unheard : (st : ℕ) (s : Signal) → unheard st s ≡ unheard st (said (word s))
+same-unheard st Iam = refl
+same-unheard st (Acm octet) = refl
+same-unheard st Anc = refl
+same-unheard st Ann = refl
+same-unheard st Cbk = refl
+same-unheard st Ran = refl
+same-unheard st (Fail f) = refl
+same-unheard st Clf = refl
+same-unheard st Rlg = refl
+same-unheard st Rsc = refl
+same-unheard st Blo = refl
+same-unheard st Ubl = refl
+same-unheard st Bla = refl
+same-unheard st Uba = refl
+
+-- neither a quiet word nor a mute one is among them
+abbrev passes : Bool → ℕ → ℕ → Bool
+passes c s x = not (unheard s (said x)) || not (quiet c s x) && not (mute x)
+
+passed : T (eachBool (λ c. eachBelow 13 (λ s. allIn (passes c s) words)))
+passed = tt
+
+or-cut : (a b : Bool) → T (a || b && false) → T a
+or-cut true b t = tt
+or-cut false true t = t
+or-cut false false t = t
+
+module _ (c : Bool) (s x : ℕ) (w : List ℕ) where
+  abbrev U : Bool
+  U = unheard s (said x)
+
+  abbrev Hears : Run → Type 0
+  Hears r = T (hears (half s r (bloFor s (x ∷ w))))
+
+  by-quiet : (q : Bool) → T (not U || not q && true) → Hears (cond q (runOf c (next s x) w) (ran s (x ∷ kept w))) → T (not U)
+  by-quiet true p h = or-cut (not U) true p
+  by-quiet false p h = rw (is-true (eqb s s) (eqb-refl s)) at h
+
+  by-mute : (m : Bool) → T (not U || not (quiet c s x) && not m) → Hears (run c s (cond m (kept w) (x ∷ kept w))) → T (not U)
+  by-mute true p h = or-cut (not U) (not (quiet c s x)) p
+  by-mute false p h = by-quiet (quiet c s x) p h
+
+  hears-next : T (passes c s x) → T (hears (view c s (x ∷ w))) → T (not U)
+  hears-next = by-mute (mute x)
+
+passes-at : (c : Bool) (s : ℕ) → T (leb s 12) → (x : Signal) → T (passes c s (word x))
+passes-at c s h x = at-has (passes c s) words (word x) (isWord x)
+    (atBelow 13 (λ n. allIn (passes c n) words) (atBool (λ c. eachBelow 13 (λ n. allIn (passes c n) words)) passed c) s (suc-le-suc (leb→le s 12 h)))
+
+next-heard : (c : Bool) (e : End) → T (valid (e .holds)) → T (hears (view c (stateOf e) (due e))) → NextIsHeard e
+next-heard c e v h s rest k = rw (same-unheard (stateOf e) s)
+    (hears-next c (stateOf e) (word s) (heard rest) (passes-at c (stateOf e) (left (leb (stateOf e) 12) _ v) s) (rw k at h))
+
+all-heard : (x y : End) → Reached true false x y → NextIsHeard x × NextIsHeard y
+all-heard x y r = (next-heard true x (i .blocks .mine) (left (hears X) _ two), next-heard false y (i .blocks .yours) (right (hears X) _ two))
+  where
+    i : Holds x y
+    i = holds r
+
+    X : Half
+    X = view true (stateOf x) (due x)
+
+    Y : Half
+    Y = view false (stateOf y) (due y)
+
+    two : T (hears X && hears Y)
+    two = right (agrees X Y) _ (sound-here table rooms shut (X, Y) (i .calls))
+
+pub someNeverArrive : ClaimUnheard
+unfolding ClaimUnheard
+someNeverArrive = inEitherRole (λ x y. NextIsHeard x × NextIsHeard y) (λ x y h. (h .1, h .0)) all-heard
