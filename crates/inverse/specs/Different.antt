@@ -3,10 +3,10 @@
 use mathlib.Core.Path.{_≡_, refl, sym, ap, _∙_, subst}
 use mathlib.Core.Bool.{Bool, true, false, cond}
 use mathlib.Core.List.{List, [], _∷_}
-use Prim.Native.Nat.{ℕ, zero, suc, _<_, _≤_}
+use Prim.Native.Nat.{ℕ, _≤_}
 use native.Mathlib.Omega.{arith}
 use borrow.Author.Tests.{ltb-false, eqb-true}
-use lib.Dec.{ltb, lit<}
+use lib.Dec.{ltb}
 use lib.ListN.{length, drop}
 use lib.Seq.{take-append-seam}
 use Rattle.link.specs.declared.Fields.{Fields}

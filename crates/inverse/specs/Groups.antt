@@ -1,14 +1,14 @@
 -- What the refusals leave where none is given: the tests of a group and of a message, one by one.
 -- Assumes nothing.
-use mathlib.Core.Path.{_≡_, refl, sym, ap, _∙_, subst}
+use mathlib.Core.Path.{_≡_, refl, sym, subst}
 use mathlib.Core.Bool.{Bool, true, false, _||_}
-use mathlib.Core.List.{List, [], _∷_}
+use mathlib.Core.List.{[], _∷_}
 use Prim.Native.Nat.{ℕ, _<_, _≤_}
 use native.Mathlib.Omega.{arith}
-use borrow.Author.Tests.{ltb-false, le-ltb, eqb-false, ne-eqb}
+use borrow.Author.Tests.{ltb-false, eqb-false, ne-eqb}
 use lib.Dec.{T, eqb, ltb}
 use Rattle.circuit.specs.Groups.{badCode, badGroup}
-use Rattle.link.specs.Refusals.{Rule, refuse, firstOf}
+use Rattle.link.specs.Refusals.{refuse, firstOf}
 
 -- six tests, none of which holds
 pub record Clear (b₀ b₁ b₂ b₃ b₄ b₅ : Bool) : Type 0 where

@@ -2,24 +2,22 @@
 -- Assumes nothing.
 use mathlib.Core.Path.{_≡_, refl, sym, ap, _∙_, subst}
 use mathlib.Core.Bool.{Bool, true, false, cond}
-use mathlib.Core.List.{List, [], _∷_, _++_, map}
+use mathlib.Core.List.{List, [], _∷_}
 use mathlib.Core.Logic.{_↔_, _⊎_, inl, inr, ⊎-elim}
 use Prim.Native.Nat.{ℕ, zero, suc, _+_, _<_, _≤_}
 use native.Mathlib.Omega.{arith}
-use borrow.Author.Tests.{ltb-false, eqb-true}
-use lib.Dec.{T, eqb, ltb, leb}
+use lib.Dec.{T}
 use lib.ListN.{length, take, drop}
 use lib.Seq.{take-append-seam}
 use Rattle.circuit.specs.Groups.{badGroup}
-use Rattle.link.specs.declared.Fields.{Fields}
 use Rattle.link.specs.declared.Reading.{Reading}
 use Rattle.link.specs.Refusals.{Rule, refuse, firstOf}
 use Rattle.link.specs.Octets.{over}
 use Rattle.link.specs.Messages.{isIam, isAcm, fixedLength, half}
 use Rattle.link.specs.declared.Written.{Written}
 use Rattle.link.specs.Reading.{readRules, fieldsOf, reading}
-use Rattle.link.specs.Writing.{Said, said, labelOf, octetsOf, writeRules, putting, Outcome, writing, iamOctets, acmOctets, plainOctets}
-use Rattle.link.specs.Entries.{Told, readInto, writeFrom}
+use Rattle.link.specs.Writing.{Said, labelOf, octetsOf, writeRules, putting, Outcome, writing, iamOctets, acmOctets, plainOctets}
+use Rattle.link.specs.Entries.{readInto, writeFrom}
 use Rattle.link.proofs.Stores.{length-pairs}
 use Rattle.inverse.specs.Numbers.{Octets}
 use Rattle.inverse.specs.Said.{fieldsSaid, saidOf}
@@ -97,25 +95,6 @@ readRefusals own far records xs = exactly (readRules own far records xs)
 
 pub writeRefusals : (own far records : ℕ) (m : Said) (room n : ℕ) → (firstOf (writeRules own far records m room) ≡ suc n) ↔ Given (suc n) (writeRules own far records m room)
 writeRefusals own far records m room = exactly (writeRules own far records m room)
-
--- a case of the paper: the codes of the sender, a message, and its octets
-pub record Case : Type 0 where
-  pub own : ℕ
-  pub far : ℕ
-  pub says : Said
-  pub octets : List ℕ
-
--- P10, and the two messages that are longer
-unfoldable pub cases : List Case
-cases =
-    record { own = 2; far = 1; says = said 3 0x46 0 0 0 []; octets = 0x01 ∷ 0x80 ∷ 0x00 ∷ 0x30 ∷ 0x00 ∷ 0x46 ∷ [] }
-    ∷ record { own = 2; far = 1; says = said 3 0x14 5 0 0 []; octets = 0x01 ∷ 0x80 ∷ 0x00 ∷ 0x30 ∷ 0x00 ∷ 0x14 ∷ 0x05 ∷ [] }
-    ∷ record { own = 2; far = 1; says = said 3 0x11 0 10 3 (1 ∷ 2 ∷ 15 ∷ []); octets = 0x01 ∷ 0x80 ∷ 0x00 ∷ 0x30 ∷ 0x00 ∷ 0x11 ∷ 0x0a ∷ 0x03 ∷ 0x30 ∷ 0x21 ∷ 0x0f ∷ [] }
-    ∷ []
-
-pub casesHold : map (λ (c : Case). octetsOf (c .own) (c .far) (c .says)) cases ≡ map (λ (c : Case). c .octets) cases
-unfolding cases octetsOf
-casesHold = refl
 
 -- Any two answers that a contract allows are equal, and so are any two buffers after it.
 pub readOnce : (own far records : ℕ) (xs : List ℕ) {r s : Reading} → r ≡ reading own far records xs → s ≡ reading own far records xs → r ≡ s

@@ -5,3 +5,4 @@ pub mod ReadBack
 pub mod Different
 pub mod WriteBack
 pub mod Laws
+pub mod Cases

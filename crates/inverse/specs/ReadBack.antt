@@ -2,20 +2,18 @@
 -- Assumes nothing.
 use mathlib.Core.Path.{_≡_, refl, sym, ap, _∙_, subst}
 use mathlib.Core.Bool.{Bool, true, false, cond, not, _&&_, _||_}
-use mathlib.Core.List.{List, [], _∷_, _++_}
-use Prim.Native.Nat.{ℕ, zero, suc, _+_, _*_, _/_, _%_, _^_, _<_, _≤_}
+use mathlib.Core.List.{List}
+use Prim.Native.Nat.{ℕ, zero, _+_, _*_, _/_, _%_, _^_, _<_, _≤_}
 use native.Mathlib.Omega.{arith}
-use borrow.Author.Tests.{ltb-false, eqb-true, eqb-false, eq-eqb, ne-eqb, not-false}
+use borrow.Author.Tests.{ltb-false, eqb-true, eqb-false, eq-eqb, not-false}
 use lib.Dec.{T, eqb, ltb, lit<, lit≤}
-use lib.ListN.{length, getD, take, drop}
-use lib.Seq.{take-append-seam}
+use lib.ListN.{length, take}
 use Rattle.circuit.specs.Groups.{badGroup}
-use Rattle.link.specs.declared.Fields.{Fields}
 use Rattle.link.specs.Refusals.{firstOf}
-use Rattle.link.specs.Octets.{lowFirst, numberOf, pairs, halves, over, badCodes, aboveFifteen}
+use Rattle.link.specs.Octets.{lowFirst, numberOf, pairs, halves, badCodes, aboveFifteen}
 use Rattle.link.specs.Messages.{listed, isIam, isAcm, fixedLength, half, labelIn, cicIn, headingIn, sixBitsIn, wordIn, indicatorsIn, countIn, addressIn}
-use Rattle.link.specs.Reading.{elsewhere, plainFields, iamFields, bodyOf, fieldsOf}
-use Rattle.link.specs.Writing.{Said, acmLimit, tooLarge, badAddress, labelOf, plainOctets, acmOctets, iamOctets, shortOctets, octetsOf, writeRules, putting, writing}
+use Rattle.link.specs.Reading.{plainFields, iamFields, bodyOf, fieldsOf}
+use Rattle.link.specs.Writing.{Said, acmLimit, tooLarge, badAddress, labelOf, plainOctets, acmOctets, iamOctets, octetsOf, writeRules}
 use Rattle.link.proofs.Signals.{at-most}
 use Rattle.link.proofs.Stores.{length-pairs}
 use Rattle.link.proofs.Tests.{fitting, fitting-iam, few}

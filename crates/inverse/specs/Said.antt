@@ -1,7 +1,6 @@
 -- A message as the writer is told it and as the reader tells it.
 -- Assumes nothing.
 use mathlib.Core.Bool.{cond}
-use Prim.Native.Nat.{ℕ}
 use lib.ListN.{take}
 use Rattle.link.specs.declared.Fields.{Fields}
 use Rattle.link.specs.Messages.{isIam}

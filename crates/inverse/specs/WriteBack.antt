@@ -3,18 +3,18 @@
 use mathlib.Core.Path.{_≡_, refl, sym, ap, _∙_, subst}
 use mathlib.Core.Bool.{Bool, true, false, cond, not, _&&_, _||_}
 use mathlib.Core.List.{List, [], _∷_, _++_}
-use Prim.Native.Nat.{ℕ, zero, suc, _+_, _*_, _-_, _/_, _%_, _^_, _<_, _≤_}
+use Prim.Native.Nat.{ℕ, zero, suc, _+_, _*_, _-_, _/_, _%_, _<_, _≤_}
 use native.Mathlib.Omega.{arith}
-use borrow.Author.Tests.{le-ltb, ltb-false, leb-false, eqb-true, eqb-false, not-false, not-true}
+use borrow.Author.Tests.{le-ltb, ltb-false, eqb-true, not-false}
 use lib.Dec.{T, eqb, ltb, leb, lit<}
 use lib.ListN.{length, getD, take, drop, length-append, length-drop}
 use lib.Seq.{take-append-seam, length-take-le}
 use Rattle.circuit.specs.Groups.{badGroup}
 use Rattle.link.specs.declared.Fields.{Fields}
-use Rattle.link.specs.Refusals.{Rule, refuse, firstOf}
+use Rattle.link.specs.Refusals.{refuse, firstOf}
 use Rattle.link.specs.Octets.{lowFirst, numberOf, pairs, halves, over, badCodes, aboveFifteen}
-use Rattle.link.specs.Messages.{listed, isIam, isAcm, fixedLength, half, labelIn, dpcIn, opcIn, cicIn, headingIn, sixBitsIn, wordIn, indicatorsIn, countIn, addressIn}
-use Rattle.link.specs.Reading.{elsewhere, unfit, bodyRules, readRules, refused, noCodes, plainFields, iamFields, fieldsIn, unless, fieldsOf}
+use Rattle.link.specs.Messages.{listed, isIam, isAcm, fixedLength, half, labelIn, dpcIn, opcIn, cicIn, headingIn, sixBitsIn, indicatorsIn, countIn, addressIn}
+use Rattle.link.specs.Reading.{elsewhere, unfit, bodyRules, readRules, noCodes, plainFields, iamFields, fieldsIn, unless, fieldsOf}
 use Rattle.link.specs.Writing.{Said, said, tooLarge, badAddress, labelOf, plainOctets, acmOctets, iamOctets, shortOctets, octetsOf, writeRules, putting, writing}
 use Rattle.link.proofs.Signals.{length-halves}
 use Rattle.link.proofs.Stores.{length-pairs}

@@ -2,20 +2,20 @@
 -- Assumes nothing.
 use mathlib.Core.Path.{_≡_, refl, sym, ap, _∙_}
 use mathlib.Core.Bool.{Bool, true, false, cond, not, _&&_, _||_}
-use mathlib.Core.List.{List, [], _∷_, _++_}
-use Prim.Native.Nat.{ℕ, zero, suc, _+_, _*_, _-_, _/_, _%_, _^_, _<_, _≤_}
+use mathlib.Core.List.{List, [], _∷_}
+use Prim.Native.Nat.{ℕ, _+_, _-_, _/_, _%_, _^_, _<_, _≤_}
 use native.Mathlib.Omega.{arith}
-use borrow.Author.Tests.{ltb-true, ltb-false, lt-ltb, le-ltb, le-leb, lt-leb, eq-eqb, ne-eqb}
+use borrow.Author.Tests.{lt-ltb, le-ltb, le-leb, lt-leb, eq-eqb, ne-eqb}
 use lib.Dec.{eqb, ltb, leb}
 use lib.ListN.{length, take, drop, length-drop, length-append}
 use lib.Seq.{length-take-le, take-at}
 use Rattle.circuit.specs.Groups.{badGroup}
 use Rattle.circuit.specs.declared.Cic.{Cic}
 use Rattle.link.specs.declared.Fields.{Fields}
-use Rattle.link.specs.Refusals.{Rule, refuse, firstOf}
+use Rattle.link.specs.Refusals.{refuse, firstOf}
 use Rattle.link.specs.Octets.{halves, over, badCodes}
 use Rattle.link.specs.Messages.{listed, isIam, isAcm, fixedLength, half, labelIn, cicIn, headingIn, sixBitsIn, wordIn, indicatorsIn, countIn, addressIn}
-use Rattle.link.specs.Reading.{elsewhere, unfit, bodyRules, readRules, noCodes, refused, plainFields, iamFields, fieldsIn, unless, bodyOf, fieldsOf}
+use Rattle.link.specs.Reading.{elsewhere, unfit, bodyRules, noCodes, refused, plainFields, iamFields, fieldsIn, unless, bodyOf, fieldsOf}
 use Rattle.link.proofs.Signals.{length-halves}
 use Rattle.link.proofs.Lengths.{no-length, a-length, the-length}
 

@@ -10,7 +10,7 @@ use Rattle.circuit.specs.declared.Failure.{Failure}
 use Rattle.circuit.specs.declared.Failure.the-variants.{Sec, Cgc, Nnc, Adi, Cfl, Ssb, Unn, Los, Sst}
 use Rattle.circuit.specs.declared.Signal.{Signal}
 use Rattle.circuit.specs.declared.Signal.the-variants.{Iam, Acm, Anc, Ann, Cbk, Clf, Ran, Rlg, Blo, Bla, Ubl, Uba, Rsc, Fail}
-use Rattle.codes.specs.declared.NamedFailure.the-variants.{IsFailure, NoFailure}
+use Rattle.codes.specs.declared.NamedFailure.the-variants.{IsFailure}
 use Rattle.codes.specs.declared.Named.{Named}
 use Rattle.codes.specs.declared.Named.the-variants.{Known, Unknown}
 use Rattle.codes.specs.Headings.{failureHeading, headingOf, amongFailures, failing, among, signalOf}

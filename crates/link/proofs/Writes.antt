@@ -1,20 +1,20 @@
 -- The cases of the writer: what is answered, and what the buffer holds, where each test stands.
 -- Assumes nothing.
-use mathlib.Core.Path.{_≡_, refl, sym, ap, _∙_, subst}
-use mathlib.Core.Bool.{Bool, true, false, cond, not, _&&_, _||_}
-use mathlib.Core.List.{List, [], _∷_, _++_}
-use Prim.Native.Nat.{ℕ, zero, suc, _+_, _*_, _-_, _/_, _%_, _<_, _≤_}
+use mathlib.Core.Path.{_≡_, refl, sym, ap, _∙_}
+use mathlib.Core.Bool.{Bool, true, false, cond, not, _&&_}
+use mathlib.Core.List.{List, [], _∷_}
+use Prim.Native.Nat.{ℕ, _+_, _*_, _-_, _<_, _≤_}
 use native.Mathlib.Omega.{arith}
-use borrow.Author.Tests.{ltb-true, ltb-false, lt-ltb, le-ltb, eq-eqb, ne-eqb}
-use lib.Dec.{T, eqb, ltb}
-use lib.ListN.{length, take, drop, length-append}
+use borrow.Author.Tests.{lt-ltb, le-ltb, eq-eqb, ne-eqb}
+use lib.Dec.{ltb}
+use lib.ListN.{length}
 use lib.Seq.{paste}
 use Rattle.circuit.specs.Groups.{badGroup}
 use Rattle.link.specs.declared.Written.{Written}
-use Rattle.link.specs.Refusals.{Rule, refuse, firstOf}
-use Rattle.link.specs.Octets.{lowFirst, pairs, over, badCodes, aboveFifteen}
+use Rattle.link.specs.Refusals.{refuse, firstOf}
+use Rattle.link.specs.Octets.{pairs, over}
 use Rattle.link.specs.Messages.{listed, isIam, isAcm, fixedLength, half}
-use Rattle.link.specs.Writing.{Said, tooLarge, badAddress, labelOf, plainOctets, acmOctets, iamHead, iamOctets, shortOctets, octetsOf, Outcome, unwritten, putting, writing, iamWriting, shortWriting, acmLimit, categoryLimit, indicatorsLimit}
+use Rattle.link.specs.Writing.{Said, tooLarge, badAddress, labelOf, plainOctets, acmOctets, iamHead, iamOctets, shortOctets, octetsOf, Outcome, unwritten, putting, writing, iamWriting, shortWriting}
 use Rattle.link.proofs.Stores.{length-pairs, paste-behind}
 
 -- the outcome of a refusal

@@ -1,10 +1,10 @@
 -- How numbers and address signals lie in octets (Q.723; document 01, "Messages on the link"). The reader and the writer both go by these.
 -- Assumes nothing.
-use mathlib.Core.Bool.{Bool, true, false, cond, _||_}
+use mathlib.Core.Bool.{Bool, false, cond, _||_}
 use mathlib.Core.List.{List, [], _∷_, _++_}
 use Prim.Native.Nat.{ℕ, zero, suc, _+_, _*_, _/_, _%_}
 use lib.Dec.{eqb, ltb}
-use lib.ListN.{length, getD, drop}
+use lib.ListN.{length, drop}
 
 -- a number in so many octets, lowest first
 abbrev pub lowFirst : ℕ → ℕ → List ℕ

@@ -11,10 +11,10 @@ ghost use Prim.Native.Nat.{_+_, _*_, _/_, _%_, _<_, _≤_, _^_};
 ghost use lib.ListN.{length, drop, take};
 ghost use lib.Seq.{paste};
 ghost use Rattle.link.specs.Octets.{numberOf, pairs, halves, over, badCode, badCodes, aboveFifteen};
-ghost use Rattle.link.specs.Messages.{fixedLength, half, listed, isIam, labelIn, dpcIn, cicIn, headingIn};
+ghost use Rattle.link.specs.Messages.{fixedLength, half, listed, isIam, cicIn, headingIn};
 ghost use Rattle.link.specs.Writing.{said, tooLarge, badAddress, plainOctets, acmOctets, iamHead, labelOf, acmLimit, unwritten, iamWriting, shortWriting, writing};
 ghost use Rattle.link.specs.Entries.{fieldsOctets, readInto, writeFrom};
-ghost use Rattle.link.specs.Reading.{noCodes, refused, elsewhere, plainFields, bodyOf, fieldsOf, messageOf, reading};
+ghost use Rattle.link.specs.Reading.{noCodes, refused, elsewhere, plainFields, bodyOf, fieldsOf, reading};
 
 // A message by numbers, or the refusal of one with every other field 0: circuit, heading, ACM's octet, IAM's category, indicators and count,
 // and its address signals. A field that the heading does not have is 0, and so is each code from the count on.

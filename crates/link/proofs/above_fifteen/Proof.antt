@@ -6,9 +6,8 @@ use Rattle.link.specs.Octets.{aboveFifteen}
 use borrow.Author.Tests.{lt-ltb, le-ltb}
 use lib.Dec.{ltb}
 use lib.ListN.{length, drop}
-use Prim.Native.Nat.{ℕ, _≤_, _-_}
-use mathlib.Core.Bool.{Bool}
-use mathlib.Core.Path.{_≡_, refl, sym, _∙_}
+use Prim.Native.Nat.{_≤_, _-_}
+use mathlib.Core.Path.{_≡_, refl, sym}
 use Rattle.link.proofs.above_fifteen.Statement.{statement}
 use Rattle.link.proofs.above_fifteen.Tie as tie
 

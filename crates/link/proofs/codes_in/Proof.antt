@@ -5,10 +5,10 @@ use borrow.Author.Needs.{needs}
 use Rattle.link.proofs.Signals.{reads, read-all}
 use Rattle.link.specs.Reading.{noCodes}
 use Rattle.link.specs.Octets.{halves}
-use lib.Seq.{paste, getD-drop}
-use lib.ListN.{length, drop, length-set, length-drop}
-use Prim.Native.Nat.{ℕ, _≤_, _-_}
-use mathlib.Core.Path.{_≡_, refl, sym, _∙_}
+use lib.Seq.{paste}
+use lib.ListN.{length, drop, length-set}
+use Prim.Native.Nat.{_≤_, _-_}
+use mathlib.Core.Path.{_≡_, refl}
 use Rattle.link.proofs.codes_in.Statement.{statement}
 use Rattle.link.proofs.codes_in.Tie as tie
 

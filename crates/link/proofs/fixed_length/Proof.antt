@@ -1,7 +1,6 @@
 -- `link::fixed_length` meets its contract.
 -- Assumes nothing.
 use Rattle.link.proofs.Lengths.{six, none}
-use borrow.Author.Tests.{ne-eqb}
 use borrow.Author.Needs.{needs}
 use Rattle.link.proofs.fixed_length.Statement.{statement}
 use Rattle.link.proofs.fixed_length.Tie as tie

@@ -5,8 +5,8 @@ use borrow.Author.Needs.{needs}
 use Rattle.link.proofs.Stores.{codes-more}
 use lib.Seq.{paste, paste-zero}
 use lib.ListN.{length, length-set}
-use Prim.Native.Nat.{ℕ, _≤_, _-_, _+_}
-use mathlib.Core.Path.{_≡_, refl, sym, _∙_, ap}
+use Prim.Native.Nat.{_≤_, _-_}
+use mathlib.Core.Path.{_≡_, refl, _∙_, ap}
 use Rattle.link.proofs.put_codes.Statement.{statement}
 use Rattle.link.proofs.put_codes.Tie as tie
 

@@ -5,7 +5,7 @@ use Rattle.link.proofs.Entries.{put-all}
 use Rattle.link.specs.Entries.{fieldsHead}
 use lib.Seq.{sets-eq}
 use lib.ListN.{length-set}
-use mathlib.Core.Path.{_≡_, refl, sym, _∙_, ap}
+use mathlib.Core.Path.{_∙_}
 use borrow.Author.Needs.{needs}
 use Rattle.link.proofs.put_fields.Statement.{statement}
 use Rattle.link.proofs.put_fields.Tie as tie

@@ -5,10 +5,10 @@ use Rattle.link.proofs.Stores.{store-more}
 use Rattle.link.specs.Writing.{plainOctets}
 use Rattle.link.specs.Octets.{lowFirst}
 use lib.Seq.{sets}
-use lib.ListN.{set, length-set}
+use lib.ListN.{length-set}
 use mathlib.Core.Path.{_∙_, ap}
-use Prim.Native.Nat.{ℕ, _%_, _/_}
-use mathlib.Core.List.{List, [], _∷_}
+use Prim.Native.Nat.{ℕ}
+use mathlib.Core.List.{List, _∷_}
 use borrow.Author.Needs.{needs}
 use Rattle.link.proofs.put_iam.Statement.{statement}
 use Rattle.link.proofs.put_iam.Tie as tie

@@ -7,8 +7,8 @@ use Rattle.link.proofs.Signals.{at-most}
 use Rattle.link.specs.Octets.{pairs}
 use lib.Seq.{paste, paste-zero}
 use lib.ListN.{length, length-set}
-use Prim.Native.Nat.{ℕ, _≤_, _-_, _/_, _*_, _+_}
-use mathlib.Core.Path.{_≡_, refl, sym, _∙_, ap}
+use Prim.Native.Nat.{_≤_, _-_, _/_, _*_, _+_}
+use mathlib.Core.Path.{_≡_, refl}
 use Rattle.link.proofs.put_pairs.Statement.{statement}
 use Rattle.link.proofs.put_pairs.Tie as tie
 

@@ -1,6 +1,5 @@
 -- `link::read` meets its contract.
 -- Assumes nothing.
-use mathlib.Core.Path.{_≡_, sym, _∙_, ap}
 use borrow.Author.Needs.{needs}
 use Rattle.link.proofs.read.Statement.{statement}
 use Rattle.link.proofs.read.Tie as tie

@@ -5,7 +5,7 @@ use Rattle.link.proofs.Lengths.{acm-length}
 use Rattle.link.proofs.Bodies.{looked-none, looked-long, looked-beyond, looked-acm, looked-plain}
 use Rattle.link.specs.Reading.{bodyOf}
 use Prim.Native.Nat.{ℕ}
-use mathlib.Core.Path.{_≡_, sym, _∙_, ap}
+use mathlib.Core.Path.{sym, _∙_, ap}
 use borrow.Author.Needs.{needs}
 use Rattle.link.proofs.read_body.Statement.{statement}
 use Rattle.link.proofs.read_body.Tie as tie

@@ -3,7 +3,7 @@
 use native.Mathlib.Omega.{arith}
 use Prim.Native.Nat.{ℕ, _/_}
 use Rattle.link.proofs.Bodies.{bad-group, short, stray, ours, strays}
-use mathlib.Core.Path.{_≡_, sym, _∙_, ap}
+use mathlib.Core.Path.{sym, _∙_, ap}
 use borrow.Author.Needs.{needs}
 use Rattle.link.proofs.read_fields.Statement.{statement}
 use Rattle.link.proofs.read_fields.Tie as tie

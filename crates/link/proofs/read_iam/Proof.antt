@@ -2,7 +2,7 @@
 -- Assumes nothing.
 use native.Mathlib.Omega.{arith}
 use Rattle.link.proofs.Bodies.{iam-short, empty, too-long, room, prefix, spoilt, no-circuit, read-whole}
-use mathlib.Core.Path.{_≡_, sym, _∙_}
+use mathlib.Core.Path.{sym, _∙_}
 use borrow.Author.Needs.{needs}
 use Rattle.link.proofs.read_iam.Statement.{statement}
 use Rattle.link.proofs.read_iam.Tie as tie

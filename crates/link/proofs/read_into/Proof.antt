@@ -1,7 +1,7 @@
 -- `link::read_into` meets its contract.
 -- Assumes nothing.
 use Rattle.link.proofs.Entries.{tells, refuses, no-room, fills}
-use mathlib.Core.Path.{_≡_, refl, sym, _∙_, ap}
+use mathlib.Core.Path.{refl}
 use borrow.Author.Needs.{needs}
 use Rattle.link.proofs.read_into.Statement.{statement}
 use Rattle.link.proofs.read_into.Tie as tie

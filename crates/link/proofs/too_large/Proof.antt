@@ -1,7 +1,7 @@
 -- `link::too_large` meets its contract.
 -- Assumes nothing.
 use Rattle.link.proofs.Tests.{wide-acm, wide-category, wide-indicators, wide-code, no-code, above, within}
-use mathlib.Core.Path.{_≡_, sym, _∙_, ap}
+use mathlib.Core.Path.{_∙_}
 use borrow.Author.Needs.{needs}
 use Rattle.link.proofs.too_large.Statement.{statement}
 use Rattle.link.proofs.too_large.Tie as tie

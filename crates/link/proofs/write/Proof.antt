@@ -4,7 +4,7 @@ use Rattle.link.proofs.Writes.{meets, no-group, no-circuit, no-heading,
 use Rattle.link.proofs.Tests.{fitting, fitting-iam}
 use Rattle.link.proofs.Lengths.{no-length, a-length, the-length}
 use borrow.Author.Tests.{ne-eqb}
-use mathlib.Core.Path.{_≡_, refl, sym, _∙_, ap}
+use mathlib.Core.Path.{refl, sym, _∙_}
 use borrow.Author.Needs.{needs}
 use Rattle.link.proofs.write.Statement.{statement}
 use Rattle.link.proofs.write.Tie as tie

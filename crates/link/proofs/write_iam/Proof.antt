@@ -3,7 +3,7 @@
 use native.Mathlib.Omega.{arith}
 use Rattle.link.proofs.Writes.{meets, iam-spoilt, iam-tight, iam-put}
 use Rattle.link.proofs.Tests.{few}
-use mathlib.Core.Path.{_≡_, refl, sym, _∙_, ap}
+use mathlib.Core.Path.{refl, sym, _∙_}
 use borrow.Author.Needs.{needs}
 use Rattle.link.proofs.write_iam.Statement.{statement}
 use Rattle.link.proofs.write_iam.Tie as tie

@@ -5,8 +5,7 @@ use Rattle.link.proofs.Writes.{meets, short-tight, short-acm, short-pla
 use Rattle.link.proofs.Tests.{acm-fits}
 use Rattle.link.proofs.Lengths.{octet, six-or-more}
 use Rattle.link.specs.Messages.{fixedLength}
-use Prim.Native.Nat.{ℕ, _≤_}
-use mathlib.Core.Path.{_≡_, refl, sym, _∙_, ap}
+use mathlib.Core.Path.{refl, _∙_, ap}
 use borrow.Author.Needs.{needs}
 use Rattle.link.proofs.write_short.Statement.{statement}
 use Rattle.link.proofs.write_short.Tie as tie

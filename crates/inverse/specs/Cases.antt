@@ -1,0 +1,87 @@
+-- Cases of the paper: P10, and messages that are read and written or refused, each with what is wanted.
+-- Assumes nothing.
+use mathlib.Core.Path.{_≡_, refl}
+use mathlib.Core.List.{List, [], _∷_, _++_, map}
+use Prim.Native.Nat.{ℕ, _+_}
+use lib.ListN.{replicate}
+use Rattle.link.specs.Reading.{fieldsOf}
+use Rattle.link.specs.Writing.{Said, said, tooLarge, badAddress, octetsOf, writing}
+
+-- a message of the exchange 2 to the exchange 1, and its octets
+pub record Written : Type 0 where
+  pub says : Said
+  pub octets : List ℕ
+
+-- the octets of a message between them on circuit 3, from the heading on
+abbrev pub from3 : List ℕ → List ℕ
+from3 rest = 0x01 ∷ 0x80 ∷ 0x00 ∷ 0x30 ∷ 0x00 ∷ rest
+
+-- the first is P10
+unfoldable pub writtenCases : List Written
+writtenCases =
+    record { says = said 3 0x46 0 0 0 []; octets = 0x01 ∷ 0x80 ∷ 0x00 ∷ 0x30 ∷ 0x00 ∷ 0x46 ∷ [] }
+    ∷ record { says = said 3 0x14 5 0 0 []; octets = from3 (0x14 ∷ 0x05 ∷ []) }
+    ∷ record { says = said 3 0x11 0 10 3 (1 ∷ 2 ∷ 15 ∷ []); octets = from3 (0x11 ∷ 0x0a ∷ 0x03 ∷ 0x30 ∷ 0x21 ∷ 0x0f ∷ []) }
+    ∷ []
+
+pub writtenHold : map (λ (c : Written). octetsOf 2 1 (c .says)) writtenCases ≡ map (λ (c : Written). c .octets) writtenCases
+unfolding writtenCases octetsOf
+writtenHold = refl
+
+-- octets that the exchange 1 reads from the exchange 2 in a group of so many records, and the refusal, 0 for none
+pub record Arrived : Type 0 where
+  pub records : ℕ
+  pub octets : List ℕ
+  pub refusal : ℕ
+
+unfoldable pub arrivedCases : List Arrived
+arrivedCases =
+    record { records = 4; octets = from3 (0x46 ∷ []); refusal = 0 }
+    ∷ record { records = 3; octets = from3 (0x46 ∷ []); refusal = 2 }
+    ∷ record { records = 3; octets = from3 (0x46 ∷ 0x00 ∷ []); refusal = 7 }
+    ∷ record { records = 4; octets = 0x02 ∷ 0x80 ∷ 0x00 ∷ 0x30 ∷ 0x00 ∷ []; refusal = 7 }
+    ∷ record { records = 4; octets = 0x02 ∷ 0x80 ∷ 0x00 ∷ 0x30 ∷ 0x00 ∷ 0x46 ∷ []; refusal = 8 }
+    ∷ record { records = 4; octets = from3 (0x21 ∷ 0x00 ∷ []); refusal = 9 }
+    ∷ record { records = 4; octets = from3 (0x14 ∷ []); refusal = 7 }
+    ∷ record { records = 4; octets = from3 (0x14 ∷ 0xff ∷ []); refusal = 0 }
+    ∷ record { records = 4; octets = from3 (0x11 ∷ 0x0a ∷ 0x03 ∷ []); refusal = 7 }
+    ∷ record { records = 4; octets = from3 (0x11 ∷ 0x0a ∷ 0x03 ∷ 0x00 ∷ []); refusal = 10 }
+    ∷ record { records = 4; octets = from3 (0x11 ∷ 0x0a ∷ 0x03 ∷ 0x00 ∷ 0x11 ∷ 0x22 ∷ []); refusal = 10 }
+    ∷ record { records = 4; octets = from3 (0x11 ∷ 0x0a ∷ 0x03 ∷ 0x10 ∷ []); refusal = 7 }
+    ∷ record { records = 3; octets = from3 (0x11 ∷ 0x0a ∷ 0x03 ∷ 0x10 ∷ 0x0a ∷ []); refusal = 10 }
+    ∷ record { records = 4; octets = from3 (0x11 ∷ 0x0a ∷ 0x03 ∷ 0x10 ∷ 0x0f ∷ []); refusal = 0 }
+    ∷ record { records = 4; octets = from3 (0x11 ∷ 0x0a ∷ 0x03 ∷ 0x20 ∷ 0x1f ∷ []); refusal = 10 }
+    ∷ record { records = 4; octets = from3 (0x11 ∷ 0xca ∷ 0x03 ∷ 0x18 ∷ 0xa1 ∷ []); refusal = 0 }
+    ∷ []
+
+pub arrivedHold : map (λ (c : Arrived). fieldsOf 1 2 (c .records) (c .octets) .refusal) arrivedCases ≡ map (λ (c : Arrived). c .refusal) arrivedCases
+unfolding arrivedCases fieldsOf
+arrivedHold = refl
+
+-- a message that the exchange 2 is to write to the exchange 1 into a buffer of so many octets, and the refusal
+pub record Ordered : Type 0 where
+  pub says : Said
+  pub room : ℕ
+  pub refusal : ℕ
+
+unfoldable pub orderedCases : List Ordered
+orderedCases =
+    record { says = said 3 0x46 0 0 0 []; room = 6; refusal = 0 }
+    ∷ record { says = said 4096 0x46 0 0 0 []; room = 6; refusal = 2 }
+    ∷ record { says = said 4096 0 0 0 0 []; room = 6; refusal = 2 }
+    ∷ record { says = said 3 0x21 64 0 0 []; room = 6; refusal = 9 }
+    ∷ record { says = said 3 0x46 1 0 0 []; room = 6; refusal = 3 }
+    ∷ record { says = said 3 0x14 64 0 0 []; room = 7; refusal = 3 }
+    ∷ record { says = said 3 0x11 0 64 0 (1 ∷ []); room = 17; refusal = 3 }
+    ∷ record { says = said 3 0x11 0 0 2048 (10 ∷ []); room = 17; refusal = 3 }
+    ∷ record { says = said 3 0x11 0 0 0 (replicate 15 1 ++ (16 ∷ [])); room = 17; refusal = 3 }
+    ∷ record { says = said 3 0x11 0 0 0 (replicate 16 1); room = 17; refusal = 10 }
+    ∷ record { says = said 3 0x11 0 0 0 []; room = 17; refusal = 10 }
+    ∷ record { says = said 3 0x11 0 0 0 (15 ∷ 1 ∷ []); room = 17; refusal = 10 }
+    ∷ record { says = said 3 0x11 0 0 0 (15 ∷ []); room = 10; refusal = 0 }
+    ∷ record { says = said 3 0x11 0 0 0 (1 ∷ []); room = 9; refusal = 11 }
+    ∷ []
+
+pub orderedHold : map (λ (c : Ordered). writing 2 1 1 (c .says) (replicate (c .room) 0) .answer .refusal) orderedCases ≡ map (λ (c : Ordered). c .refusal) orderedCases
+unfolding orderedCases writing octetsOf tooLarge badAddress
+orderedHold = refl
