@@ -2,7 +2,7 @@
 
 // What has been read of the line: its numbers so far, the number that is being read and its base (0: none is), whether it is a remark.
 pub struct Line {
-    pub fields: [u32; 17],
+    pub fields: [u32; 48],
     pub count: usize,
     pub value: u32,
     pub base: u32,
@@ -11,7 +11,7 @@ pub struct Line {
 
 pub fn empty() -> Line {
     Line {
-        fields: [0u32; 17],
+        fields: [0u32; 48],
         count: 0,
         value: 0,
         base: 0,
@@ -35,12 +35,12 @@ pub fn ended(line: Line) -> Line {
     }
     let mut fields = line.fields;
     let count = line.count;
-    if count < 17 {
+    if count < 48 {
         fields[count] = line.value;
     }
     Line {
         fields: fields,
-        count: if count < 17 { count + 1 } else { 18 },
+        count: if count < 48 { count + 1 } else { 49 },
         value: 0,
         base: 0,
         remark: line.remark,
@@ -82,7 +82,7 @@ pub fn read(line: Line, byte: u8) -> Line {
         b' ' => ended(line),
         b'x' => begun(line, 16, 0),
         b'#' => Line {
-            fields: [0u32; 17],
+            fields: [0u32; 48],
             count: 0,
             value: 0,
             base: 0,

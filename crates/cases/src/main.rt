@@ -4,17 +4,32 @@ use libc::STDOUT_FILENO;
 use lines::Line;
 
 mod lines; // lines.rt: reading the table of cases
+mod messages; // messages.rt: the cases of a message
 mod steps; // steps.rt: the cases of a step
 
-// Whether a line's case is answered as it says; what is tried is its first number.
-fn right(line: Line) -> bool {
-    let fields = line.fields;
-    if line.count != 17 {
+// A case of a message, of which the line's first numbers are one.
+fn message_right(numbers: &[u32], count: usize) -> bool {
+    if count == 0 {
         return false;
     }
-    match fields[0] {
-        1 => steps::right(fields),
+    if numbers.len() < count {
+        return false;
+    }
+    match numbers[0] {
+        2 => messages::read_right(&numbers[..count]),
+        3 => messages::write_right(&numbers[..count]),
         _ => false,
+    }
+}
+
+// Whether a line's case is answered as it says; what is tried is its first number. A step has 17 numbers.
+fn right(line: Line) -> bool {
+    let fields = line.fields;
+    let count = line.count;
+    if fields[0] == 1 {
+        count == 17 && steps::right(fields)
+    } else {
+        message_right(&fields, count)
     }
 }
 

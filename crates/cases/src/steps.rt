@@ -48,7 +48,7 @@ fn field(answer: u64, worth: u64) -> u32 {
     (answer / worth % 256) as u32
 }
 
-fn is_answer(got: u64, f: [u32; 17]) -> bool {
+fn is_answer(got: u64, f: [u32; 48]) -> bool {
     field(got, 1) == f[11]
         && field(got, 0x100) == f[14]
         && field(got, 0x10000) == f[12]
@@ -58,7 +58,7 @@ fn is_answer(got: u64, f: [u32; 17]) -> bool {
 }
 
 // Whether the step of a case answers, and leaves the table, as the case says. The table is the first part of the space.
-fn right_in(space: &mut [u8], f: [u32; 17]) -> bool {
+fn right_in(space: &mut [u8], f: [u32; 48]) -> bool {
     let octets = f[3] as usize;
     if space.len() < octets {
         return false;
@@ -79,7 +79,7 @@ fn right_in(space: &mut [u8], f: [u32; 17]) -> bool {
 }
 
 // A record more than a group may have is the longest table that is tried.
-pub fn right(f: [u32; 17]) -> bool {
+pub fn right(f: [u32; 48]) -> bool {
     let mut space = [0u8; 8194];
     right_in(&mut space, f)
 }
