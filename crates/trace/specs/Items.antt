@@ -32,13 +32,21 @@ module _ (s : List ℕ) where
   unfolding item
   isEvent h e l = simp (ne-eqb (length s) 0 (λ z. omega arith), e, le-ltb (length s) (octetsOf (octet s 0)) l)
 
-octetsBelow : (k : ℕ) → k ≤ 3 → 0 < octetsOf k
+fourOctets : (k : ℕ) → k ≤ 3 → 4 ≤ octetsOf k
 unfolding octetsOf
-octetsBelow zero h = omega arith
-octetsBelow (suc zero) h = omega arith
-octetsBelow (suc (suc zero)) h = omega arith
-octetsBelow (suc (suc (suc zero))) h = omega arith
-octetsBelow (suc (suc (suc (suc k)))) h = absurd (omega arith)
+fourOctets zero h = omega arith
+fourOctets (suc zero) h = omega arith
+fourOctets (suc (suc zero)) h = omega arith
+fourOctets (suc (suc (suc zero))) h = omega arith
+fourOctets (suc (suc (suc (suc k)))) h = absurd (omega arith)
+
+fiveOctets : (k : ℕ) → k ≤ 3 → (k ≡ 3 → ⊥) → 5 ≤ octetsOf k
+unfolding octetsOf
+fiveOctets zero h n = omega arith
+fiveOctets (suc zero) h n = omega arith
+fiveOctets (suc (suc zero)) h n = omega arith
+fiveOctets (suc (suc (suc zero))) h n = absurd (n refl)
+fiveOctets (suc (suc (suc (suc k)))) h n = absurd (omega arith)
 
 orFalse : (a b : Bool) → (a || b) ≡ false → b ≡ false
 orFalse true b e = absurd (let z : _≡_ {A = ℕ} 0 1 = cc in omega arith)
@@ -63,7 +71,7 @@ unfolding recorded
 wholeHere s e q p n f =
     let y : Event e ≡ Event (recorded s) = sym q ∙ isEvent s p n f in
     let x : e ≡ recorded s = cc in
-    rw x (record { says = refl; event = n; some = octetsBelow (octet s 0) (kindBelow (octet s 0) n); fits = f })
+    rw x (record { says = refl; event = n; some = omega (arith, fourOctets (octet s 0) (kindBelow (octet s 0) n)); fits = f })
 
 pub whole : (s : List ℕ) (e : Recorded) → item s ≡ Event e → Whole s e
 whole s e q =
@@ -76,3 +84,48 @@ whole s e q =
     (λ l. let y : Event e ≡ Short = sym q ∙ isShort s p n (ltb-true _ _ l) in never cc)
     (λ l. wholeHere s e q p n (ltb-false _ _ l))))
 
+-- an item by its tests, as cases for a proof: at the end, no event, a short record, or a whole one
+pub byItem : {P : Type 0} (s : List ℕ)
+    → (length s ≡ 0 → item s ≡ End → P)
+    → (0 < length s → noEvent (octet s 0) ≡ true → item s ≡ NoEvent → P)
+    → (0 < length s → item s ≡ Short → P)
+    → (item s ≡ Event (recorded s) → P)
+    → P
+byItem s atEnd none short event =
+    byTest (eqb (length s) 0)
+    (λ z. atEnd (eqb-true _ _ z) (ends s (eqb-true _ _ z)))
+    (λ z. let p : 0 < length s = omega (arith, eqb-false (length s) 0 z) in
+    byTest (noEvent (octet s 0))
+    (λ n. none p n (noEventThere s p n))
+    (λ n. byTest (ltb (length s) (octetsOf (octet s 0)))
+    (λ l. short p (isShort s p n (ltb-true _ _ l)))
+    (λ l. event (isEvent s p n (ltb-false _ _ l)))))
+
+-- octets behind a record change nothing of what it says
+module _ (s rest : List ℕ) where
+  pub sameOctet : (i : ℕ) → i < length s → octet (s ++ rest) i ≡ octet s i
+  sameOctet i h = List·getD-append s rest 0 i h
+
+  longer : length s ≤ length (s ++ rest)
+  longer = rw length-append (omega arith)
+
+  sameDetail : (k : ℕ) → k ≤ 3 → octetsOf k ≤ length s → detailOf k (octet (s ++ rest) 4) ≡ detailOf k (octet s 4)
+  sameDetail k h f = byTest (eqb k 3) (λ e. rw e) (λ e. rw (sameOctet 4 (omega (arith, fiveOctets k h (eqb-false k 3 e)))))
+
+  sameRecord : 4 ≤ length s → octet s 0 ≤ 3 → octetsOf (octet s 0) ≤ length s → recorded (s ++ rest) ≡ recorded s
+  unfolding recorded
+  sameRecord h k f =
+      rw (sameOctet 0 (omega arith), sameOctet 1 (omega arith), sameOctet 2 (omega arith), sameOctet 3 (omega arith), sameDetail (octet s 0) k f)
+
+  pub eventStays : (e : Recorded) → item s ≡ Event e → item (s ++ rest) ≡ Event e
+  unfolding recorded
+  eventStays e q =
+      let w = whole s e q in
+      let k : octet s 0 ≤ 3 = kindBelow (octet s 0) (w .event) in
+      let f : octetsOf (octet s 0) ≤ length s = rw (w .says) at (w .fits) in
+      let h : 4 ≤ length s = omega (arith, fourOctets (octet s 0) k) in
+      isEvent (s ++ rest) (omega (arith, longer)) (rw (sameOctet 0 (omega arith)) (w .event)) (rw (sameOctet 0 (omega arith)) (omega (arith, longer)))
+      ∙ ap Event (sameRecord h k f ∙ sym (w .says))
+
+  pub noneStays : 0 < length s → noEvent (octet s 0) ≡ true → item (s ++ rest) ≡ NoEvent
+  noneStays h n = noEventThere (s ++ rest) (omega (arith, longer)) (rw (sameOctet 0 h) n)

@@ -3,3 +3,4 @@ pub mod Replay
 pub mod Feed
 pub mod Items
 pub mod Runs
+pub mod Parts
