@@ -12,16 +12,16 @@ use borrow.Author.Tests.{eqb-true, eqb-false, eq-eqb, ne-eqb, ltb-true, ltb-fals
 use Rattle.text.specs.Numbers.{byTest}
 use Rattle.text.specs.Lines.{endLine, cutLine, badGroupLine, groupLine}
 use Rattle.text.specs.Writing.{lineRoom}
-use Rattle.trace.specs.declared.Recorded.{Recorded}
-use Rattle.trace.specs.declared.Item.{Item}
-use Rattle.trace.specs.declared.Item.the-variants.{Event, NoEvent, Short, End}
+use Rattle.records.specs.declared.Recorded.{Recorded}
+use Rattle.records.specs.declared.Item.{Item}
+use Rattle.records.specs.declared.Item.the-variants.{Event, NoEvent, Short, End}
 use Rattle.trace.specs.declared.Running.{Running}
 use Rattle.trace.specs.declared.Stage.{Stage}
 use Rattle.trace.specs.declared.Stage.the-variants.{Start, Bad, Runs, Cut}
-use Rattle.trace.specs.Records.{octetsOf, octet, item, recorded, ownIn, farIn, circuitsIn, refusedStart, badStart}
+use Rattle.records.specs.Records.{octetsOf, octet, item, recorded, ownIn, farIn, circuitsIn, refusedStart, badStart}
 use Rattle.trace.specs.Replay.{happens, eventText, onward, textAt, linesWithin, lines, opened, idle, replay}
 use Rattle.trace.specs.Feed.{Part, Share, mayGo, shareOf, share, stops, stageAt, behind, runWithin, run, stays, begins, fed, isOver, lastLine}
-use Rattle.trace.specs.Items.{never, Whole, whole, byItem, sameOctet, eventStays, noneStays}
+use Rattle.records.specs.Items.{never, Whole, whole, byItem, sameOctet, eventStays, noneStays}
 use Rattle.trace.specs.Runs.{Shared, shared, runStops, runGoes}
 
 -- ---- the lines, one event after another

@@ -9,10 +9,10 @@ use lib.Dec.{eqb, ltb}
 use lib.ListN.{length, getD, length-append, List·getD-append}
 use borrow.Author.Tests.{eq-eqb, ne-eqb, eqb-true, eqb-false, ltb-true, ltb-false, lt-ltb, le-ltb}
 use Rattle.text.specs.Numbers.{byTest}
-use Rattle.trace.specs.declared.Recorded.{Recorded}
-use Rattle.trace.specs.declared.Item.{Item}
-use Rattle.trace.specs.declared.Item.the-variants.{Event, NoEvent, Short, End}
-use Rattle.trace.specs.Records.{octet, noEvent, octetsOf, detailOf, recorded, item}
+use Rattle.records.specs.declared.Recorded.{Recorded}
+use Rattle.records.specs.declared.Item.{Item}
+use Rattle.records.specs.declared.Item.the-variants.{Event, NoEvent, Short, End}
+use Rattle.records.specs.Records.{octet, noEvent, octetsOf, detailOf, recorded, item}
 
 -- the cases of `item`, by its own tests
 module _ (s : List ℕ) where
