@@ -111,3 +111,36 @@ pub fn group_in(s: &[u8]) -> Group
         circuits: two(s, 5),
     }
 }
+
+// A trace and the place of its next record. Its functions are thin: what stands at a place is `item_at`'s to say.
+pub struct Reader<'a> {
+    pub src: &'a [u8],
+    pub at: usize,
+}
+
+pub fn new<'a>(src: &'a [u8]) -> Reader<'a>
+    ensures { λ r. ⌜ (r .src ≡ src .entry) × (r .at ≡ 0) ⌝ }
+{
+    Reader { src, at: 0 }
+}
+
+// The same trace at another place.
+pub fn moved<'a>(r: Reader<'a>, at: usize) -> Reader<'a>
+    ensures { λ q. ⌜ (q .src ≡ r .entry .src) × (q .at ≡ at) ⌝ }
+{
+    Reader { src: r.src, at }
+}
+
+// The record at the reader's place.
+pub fn next<'a>(r: Reader<'a>) -> Item
+    ensures { λ i. ⌜ i ≡ item (drop (r .entry .at) (now (r .entry .src))) ⌝ }
+{
+    item_at(r.src, r.at)
+}
+
+// The record at a place of a trace, by way of a reader: for callers that have a slice and a number.
+pub fn record_at(s: &[u8], at: usize) -> Item
+    ensures { λ i. ⌜ i ≡ item (drop at (now (s .entry))) ⌝ }
+{
+    next(moved(new(s), at))
+}
