@@ -113,7 +113,7 @@ fn one_event(r: Running, table: &mut [u8], part: &[u8], at: usize, room: &mut [u
     if r.next == 18446744073709551615 {
         return no_turn();
     }
-    one_item(records::item_at(part, at), r, table, room)
+    one_item(records::record_at(part, at), r, table, room)
 }
 
 fn onward(r: Running) -> Running
@@ -163,7 +163,7 @@ fn run(r: Running, table: &mut [u8], part: &[u8], room: &mut [u8]) -> Fed
     Fed {
         taken: at,
         written: out,
-        stage: stage_at(records::item_at(part, at), here),
+        stage: stage_at(records::record_at(part, at), here),
     }
 }
 
