@@ -1,4 +1,3 @@
-pub mod Items
 pub mod Turns
 pub mod Runs
 pub mod Opening

@@ -15,7 +15,7 @@ use Rattle.trace.specs.declared.Running.{Running}
 use Rattle.trace.specs.declared.Stage.{Stage}
 use Rattle.trace.specs.declared.Stage.the-variants.{Start, Bad, Runs}
 use Rattle.trace.specs.declared.Fed.{Fed}
-use Rattle.trace.specs.Records.{octetsOf, refusedStart}
+use Rattle.records.specs.Records.{octetsOf, refusedStart}
 use Rattle.trace.specs.Replay.{opened}
 use Rattle.trace.specs.Feed.{Part, answerOf, stays, begins}
 use Rattle.trace.proofs.Runs.{fitsRoom}

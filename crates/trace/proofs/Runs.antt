@@ -10,7 +10,7 @@ use lib.Seq.{length-take-le, take-all, take-at, drop-at, drop-drop}
 use borrow.Rule.Slice.PartMut.{midOf, putMid, same-len-mid}
 use Rattle.text.specs.Writing.{Printed, over}
 use Rattle.trace.specs.declared.Running.{Running}
-use Rattle.trace.specs.Records.{item}
+use Rattle.records.specs.Records.{item}
 use Rattle.trace.specs.Replay.{onward}
 use Rattle.trace.specs.Feed.{Part, Share, noShare, share, stops, stageAt, behind, run, answerOf}
 use Rattle.trace.specs.Runs.{Shared, shared, runStops, runGoes, twice, ordinal}

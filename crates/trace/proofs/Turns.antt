@@ -14,12 +14,12 @@ use Rattle.group.specs.Table.{stepIn}
 use Rattle.text.specs.declared.Line.{Line}
 use Rattle.text.specs.Lines.{line}
 use Rattle.text.specs.Writing.{Printed, inRoom, over, lineRoom}
-use Rattle.trace.specs.declared.Recorded.{Recorded}
-use Rattle.trace.specs.declared.Item.{Item}
-use Rattle.trace.specs.declared.Item.the-variants.{Event}
+use Rattle.records.specs.declared.Recorded.{Recorded}
+use Rattle.records.specs.declared.Item.{Item}
+use Rattle.records.specs.declared.Item.the-variants.{Event}
 use Rattle.trace.specs.declared.Running.{Running}
 use Rattle.trace.specs.declared.Turn.{Turn}
-use Rattle.trace.specs.Records.{octetsOf, item}
+use Rattle.records.specs.Records.{octetsOf, item}
 use Rattle.trace.specs.Replay.{happens, lineOf, eventText}
 use Rattle.trace.specs.Feed.{Share, noTurn, noShare, turnOf, shareOf, share}
 

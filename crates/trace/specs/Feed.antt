@@ -7,15 +7,15 @@ use lib.Dec.{eqb, leb, ltb}
 use lib.ListN.{length, take, drop}
 use Rattle.text.specs.Lines.{groupLine, endLine, cutLine, badGroupLine}
 use Rattle.text.specs.Writing.{lineRoom}
-use Rattle.trace.specs.declared.Recorded.{Recorded}
-use Rattle.trace.specs.declared.Item.{Item}
-use Rattle.trace.specs.declared.Item.the-variants.{Event, NoEvent, Short, End}
+use Rattle.records.specs.declared.Recorded.{Recorded}
+use Rattle.records.specs.declared.Item.{Item}
+use Rattle.records.specs.declared.Item.the-variants.{Event, NoEvent, Short, End}
 use Rattle.trace.specs.declared.Running.{Running}
 use Rattle.trace.specs.declared.Stage.{Stage}
 use Rattle.trace.specs.declared.Stage.the-variants.{Start, Bad, Runs, Cut}
 use Rattle.trace.specs.declared.Turn.{Turn}
 use Rattle.trace.specs.declared.Fed.{Fed}
-use Rattle.trace.specs.Records.{octetsOf, item, ownIn, farIn, circuitsIn, refusedStart}
+use Rattle.records.specs.Records.{octetsOf, item, ownIn, farIn, circuitsIn, refusedStart}
 use Rattle.trace.specs.Replay.{happens, eventText, onward, opened}
 
 -- what is taken of the part, what is written, where the replay stands then and what the table holds

@@ -10,11 +10,11 @@ use Rattle.group.specs.declared.Answer.{Answer}
 use Rattle.group.specs.Table.{Step, stepIn}
 use Rattle.text.specs.declared.Line.{Line}
 use Rattle.text.specs.Lines.{line, groupLine, endLine, cutLine, badGroupLine}
-use Rattle.trace.specs.declared.Recorded.{Recorded}
-use Rattle.trace.specs.declared.Item.{Item}
-use Rattle.trace.specs.declared.Item.the-variants.{Event, NoEvent, Short, End}
+use Rattle.records.specs.declared.Recorded.{Recorded}
+use Rattle.records.specs.declared.Item.{Item}
+use Rattle.records.specs.declared.Item.the-variants.{Event, NoEvent, Short, End}
 use Rattle.trace.specs.declared.Running.{Running}
-use Rattle.trace.specs.Records.{octetsOf, item, ownIn, farIn, circuitsIn, badStart}
+use Rattle.records.specs.Records.{octetsOf, item, ownIn, farIn, circuitsIn, badStart}
 
 -- what an event does in the group, on the table as all events before it left it
 unfoldable pub happens : Running → List ℕ → Recorded → Step

@@ -11,13 +11,13 @@ use lib.ListN.{length, drop, length-drop}
 use borrow.Author.Tests.{eq-eqb, ne-eqb, eqb-false, ltb-true}
 use Rattle.text.specs.Numbers.{byTest}
 use Rattle.text.specs.Writing.{lineRoom}
-use Rattle.trace.specs.declared.Item.{Item}
-use Rattle.trace.specs.declared.Item.the-variants.{Event, NoEvent, Short, End}
+use Rattle.records.specs.declared.Item.{Item}
+use Rattle.records.specs.declared.Item.the-variants.{Event, NoEvent, Short, End}
 use Rattle.trace.specs.declared.Running.{Running}
-use Rattle.trace.specs.Records.{item}
+use Rattle.records.specs.Records.{item}
 use Rattle.trace.specs.Replay.{onward}
 use Rattle.trace.specs.Feed.{Part, Share, noShare, mayGo, shareOf, share, stops, behind, runWithin, run}
-use Rattle.trace.specs.Items.{never, Whole, whole}
+use Rattle.records.specs.Items.{never, Whole, whole}
 
 -- a share takes what there is, and one that takes nothing is none
 pub record Shared (table s : List ℕ) (h : Share) : Type 0 where

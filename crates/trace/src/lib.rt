@@ -3,32 +3,17 @@
 use circuit::Cic;
 use circuit::PointCode;
 use group::Answer;
+use records::Item;
+use records::Recorded;
 use text::Line;
 ghost use mathlib.Core.Path.{_≡_};
 ghost use mathlib.Core.List.{[]};
 ghost use Prim.Native.Nat.{_+_, _-_, _^_, _≤_, _<_, min};
 ghost use lib.ListN.{length, drop};
 ghost use Rattle.text.specs.Writing.{Printed, inRoom, over};
-ghost use Rattle.trace.specs.Records.{octetsOf, octet, two, detailOf, recorded, item, refusedStart};
+ghost use Rattle.records.specs.Records.{item};
 ghost use Rattle.trace.specs.Replay.{lineOf, onward, opened};
 ghost use Rattle.trace.specs.Feed.{noTurn, turnOf, shareOf, share, stageAt, answerOf, run, stays, begins, fed, isOver, tableOctets, lastLine, kept};
-
-// What an event's record says: kind 1 a signal and its heading, 2 a command, 3 a timer, whose detail is 0.
-pub struct Recorded {
-    pub kind: u8,
-    pub circuit: u16,
-    pub code: u8,
-    pub detail: u8,
-}
-
-// What stands at a place of a trace, behind the group: an event's record; an octet that starts none; a record's start and then the
-// end; nothing more.
-pub enum Item {
-    Event(Recorded),
-    NoEvent,
-    Short,
-    End,
-}
 
 // A replay behind its group: the two codes, how many circuits there are, and the next event's ordinal.
 pub struct Running {
@@ -57,68 +42,6 @@ pub struct Fed {
     pub taken: usize,
     pub written: usize,
     pub stage: Stage,
-}
-
-// The octets of a record, its kind included, by its kind.
-pub fn octets_of(kind: u8) -> usize
-    ensures { λ r. ⌜ r ≡ octetsOf kind ⌝ }
-{
-    match kind {
-        0 => 7,
-        1 => 5,
-        2 => 5,
-        3 => 4,
-        _ => 0,
-    }
-}
-
-fn octet(s: &[u8], at: usize) -> u8
-    ensures { λ r. ⌜ r ≡ octet (now (s .entry)) at ⌝ }
-{
-    if at < s.len() { s[at] } else { 0 }
-}
-
-fn two(s: &[u8], at: usize) -> u16
-    requires { ⌜ at + 1 < 2 ^ 64 ⌝ }
-    ensures { λ r. ⌜ r ≡ two (now (s .entry)) at ⌝ }
-{
-    octet(s, at) as u16 + 256 * octet(s, at + 1) as u16
-}
-
-fn detail(kind: u8, octet: u8) -> u8
-    ensures { λ r. ⌜ r ≡ detailOf kind octet ⌝ }
-{
-    if kind == 3 { 0 } else { octet }
-}
-
-fn recorded_at(s: &[u8], at: usize) -> Recorded
-    requires { ⌜ at ≤ length (now s) ⌝ }
-    ensures { λ r. ⌜ r ≡ recorded (drop at (now (s .entry))) ⌝ }
-{
-    let kind = octet(s, at);
-    Recorded {
-        kind: kind,
-        circuit: two(s, at + 1),
-        code: octet(s, at + 3),
-        detail: detail(kind, octet(s, at + 4)),
-    }
-}
-
-// What stands at a place of a trace, behind the group.
-pub fn item_at(s: &[u8], at: usize) -> Item
-    ensures { λ r. ⌜ r ≡ item (drop at (now (s .entry))) ⌝ }
-{
-    if s.len() <= at {
-        return Item::End;
-    }
-    let kind = octet(s, at);
-    if circuit::either(kind == 0, 3 < kind) {
-        return Item::NoEvent;
-    }
-    if s.len() - at < octets_of(kind) {
-        return Item::Short;
-    }
-    Item::Event(recorded_at(s, at))
 }
 
 fn line_of(ordinal: u64, circuit: u16, a: Answer) -> Line
@@ -150,7 +73,7 @@ fn event(r: Running, table: &mut [u8], e: Recorded, room: &mut [u8]) -> Turn
     let a = group::step(own, far, table, Cic(e.circuit as u32), found);
     let written = text::event_line(room, line_of(r.next, e.circuit, a));
     Turn {
-        taken: octets_of(e.kind),
+        taken: records::octets_of(e.kind),
         written: written,
     }
 }
@@ -190,7 +113,7 @@ fn one_event(r: Running, table: &mut [u8], part: &[u8], at: usize, room: &mut [u
     if r.next == 18446744073709551615 {
         return no_turn();
     }
-    one_item(item_at(part, at), r, table, room)
+    one_item(records::record_at(part, at), r, table, room)
 }
 
 fn onward(r: Running) -> Running
@@ -240,7 +163,7 @@ fn run(r: Running, table: &mut [u8], part: &[u8], room: &mut [u8]) -> Fed
     Fed {
         taken: at,
         written: out,
-        stage: stage_at(item_at(part, at), here),
+        stage: stage_at(records::record_at(part, at), here),
     }
 }
 
@@ -254,22 +177,16 @@ fn stay(stage: Stage) -> Fed
     }
 }
 
-fn refused_start(s: &[u8]) -> bool
-    ensures { λ r. ⌜ r ≡ refusedStart (now (s .entry)) ⌝ }
-{
-    let own = PointCode(two(s, 1) as u32);
-    let far = PointCode(two(s, 3) as u32);
-    let circuits = two(s, 5) as usize;
-    circuit::either(octet(s, 0) != 0, circuit::bad_group(own, far, circuits))
-}
-
 fn opened(s: &[u8]) -> Running
     ensures { λ r. ⌜ r ≡ opened (now (s .entry)) ⌝ }
 {
+    let g = records::group_in(s);
+    let own = g.own;
+    let far = g.far;
     Running {
-        own: PointCode(two(s, 1) as u32),
-        far: PointCode(two(s, 3) as u32),
-        circuits: two(s, 5),
+        own: own,
+        far: far,
+        circuits: g.circuits,
         next: 1,
     }
 }
@@ -280,11 +197,11 @@ fn begin(part: &[u8], room: &mut [u8]) -> Fed
     ensures writes { λ a. ⌜ now (room .exit) ≡ over (begins [] (now (part .entry)) (length (now (room .entry))) .text) (now (room .entry)) ⌝ }
     ensures within { λ a. ⌜ (a .taken ≤ length (now (part .entry))) × (a .written ≤ length (now (room .entry))) ⌝ }
 {
-    let octets = octets_of(0);
+    let octets = records::octets_of(0);
     if part.len() < octets {
         return stay(Stage::Start);
     }
-    if refused_start(part) {
+    if records::refused_start(part) {
         return stay(Stage::Bad);
     }
     if room.len() < text::LINE {

@@ -18,8 +18,8 @@ no-turn-requires-2 c κs = search needs
 returns-2 : tie.Need-returns-2
 returns-2 c = rw (c .no-turn2 .ensures) (noOrdinal _ _ _ _ (c .before .if2 .taken) (c .before .before .before .if1 .left))
 
-item-at-requires : tie.Need-item-at-requires
-item-at-requires c κs = search needs
+record-at-requires : tie.Need-record-at-requires
+record-at-requires c κs = search needs
 
 one-item-requires : tie.Need-one-item-requires
 one-item-requires c κs = search needs
@@ -33,7 +33,7 @@ same-length-2 c = search needs
 returns-3 : tie.Need-returns-3
 returns-3 c =
     let a = c .before .before .before .before .before .before .before .before .before .before .before .before .before .before .args in
-    rw (mayTake (a .r) (a .table .now) (drop (a .at) (a .part .now)) (a .room .now) (c .before .before .before .before .before .before .before .before .before .before .if1 .left) (c .before .before .before .before .before .before .before .before .if2 .left) (search needs), ← c .before .before .before .before .before .before .before .item-at .ensures) (c .before .before .before .before .one-item .ensures)
+    rw (mayTake (a .r) (a .table .now) (drop (a .at) (a .part .now)) (a .room .now) (c .before .before .before .before .before .before .before .before .before .before .if1 .left) (c .before .before .before .before .before .before .before .before .if2 .left) (search needs), ← c .before .before .before .before .before .before .before .record-at .ensures) (c .before .before .before .before .one-item .ensures)
 
 pub one-event-spec : {M : Type 1} → statement M
 one-event-spec =
@@ -43,7 +43,7 @@ one-event-spec =
     returns
     no-turn-requires-2
     returns-2
-    item-at-requires
+    record-at-requires
     one-item-requires
     same-length
     same-length-2

@@ -1,27 +1,17 @@
--- `trace::opened` meets its contract.
--- Assumes nothing.
 use borrow.Author.Needs.{needs}
 use Rattle.trace.proofs.opened.Statement.{statement}
 use Rattle.trace.proofs.opened.Tie as tie
+use Rattle.trace.proofs.opened.Reads as reads
+use Rattle.trace.proofs.opened.Lts as lts
+use Rattle.records.proofs.group_in.Reads as group-in-reads
 
-two-requires : tie.Need-two-requires
-two-requires c κs = search needs
+-- src/lib.rt:183:9
+group-in-requires : tie.Need-group-in-requires
+group-in-requires c κs = search needs
 
-cast-t3 : tie.Need-cast-t3
-cast-t3 c = search needs
-
-two-requires-2 : tie.Need-two-requires-2
-two-requires-2 c κs = search needs
-
-cast-t6 : tie.Need-cast-t6
-cast-t6 c = search needs
-
-two-requires-3 : tie.Need-two-requires-3
-two-requires-3 c κs = search needs
-
+-- src/lib.rt:180:1
 returns : tie.Need-returns
-returns c = rw (c .two3 .ensures, c .before .two2 .ensures, c .before .before .two .ensures)
+returns c = rw (c .before .before .group-in .ensures)
 
 pub opened-spec : {M : Type 1} → statement M
-opened-spec =
-    tie.close (tie.spec two-requires cast-t3 two-requires-2 cast-t6 two-requires-3 returns)
+opened-spec = tie.close (tie.spec group-in-requires returns)

@@ -72,8 +72,8 @@ loop-again c =
     (again _ _ _ _ _ _ _ _ _ _ _ (l .inv) _ refl _ refl (o .ensures .1 .0) (o .ensures .1 .1) (o .kept .1 .0) (o .kept .1 .1 .1 .1 .0)
     (λ z. c .before .before .before .if1 .left (ap (λ (t : Turn). t .taken) (o .ensures .0) ∙ z)))
 
-item-at-requires : tie.Need-item-at-requires Inv-loop μ-loop
-item-at-requires c κs = search needs
+record-at-requires : tie.Need-record-at-requires Inv-loop μ-loop
+record-at-requires c κs = search needs
 
 stage-at-requires : tie.Need-stage-at-requires Inv-loop μ-loop
 stage-at-requires c κs = search needs
@@ -93,7 +93,7 @@ returns c =
     let o = c .before .before .before .before .before .before .before .before .one-event in
     let l = c .before .before .before .before .before .before .before .before .before .before .before .loop in
     let a = c .before .before .before .before .before .before .before .before .before .before .before .before .before .before .before .args in
-    rw (c .stage-at .ensures, c .before .item-at .ensures)
+    rw (c .stage-at .ensures, c .before .record-at .ensures)
     (stopped _ _ _ _ _ _ _ _ _ _ _ (l .inv) _ refl _ refl (o .ensures .1 .0) (o .ensures .1 .1) (sym (ap (λ (t : Turn). t .taken) (o .ensures .0)) ∙ c .before .before .if1 .taken))
 
 pub run-spec : {M : Type 1} → statement M
@@ -112,7 +112,7 @@ run-spec =
     onward-requires
     loop-less
     loop-again
-    item-at-requires
+    record-at-requires
     stage-at-requires
     same-length
     same-length-2

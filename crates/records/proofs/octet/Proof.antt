@@ -1,10 +1,10 @@
--- `trace::octet` meets its contract.
+-- `records::octet` meets its contract.
 -- Assumes nothing.
 use lib.ListN.{List·getD-eq-default}
 use mathlib.Core.Path.{sym}
 use borrow.Author.Needs.{needs}
-use Rattle.trace.proofs.octet.Statement.{statement}
-use Rattle.trace.proofs.octet.Tie as tie
+use Rattle.records.proofs.octet.Statement.{statement}
+use Rattle.records.proofs.octet.Tie as tie
 
 shared-slice-read-result : tie.Need-shared-slice-read-result
 shared-slice-read-result c = search needs

@@ -1,13 +1,13 @@
--- `trace::item_at` meets its contract.
+-- `records::item_at` meets its contract.
 -- Assumes nothing.
-use Rattle.trace.specs.declared.Item.the-variants.{Event}
-use Rattle.trace.proofs.Items.{endsAt, noEventAt, shortAt, eventAt}
-use Rattle.trace.specs.Records.{noEvent, octetsOf}
+use Rattle.records.specs.declared.Item.the-variants.{Event}
+use Rattle.records.proofs.Items.{endsAt, noEventAt, shortAt, eventAt}
+use Rattle.records.specs.Records.{noEvent, octetsOf}
 use native.Mathlib.Omega.{arith}
 use mathlib.Core.Path.{_≡_, sym, ap, _∙_}
 use borrow.Author.Needs.{needs}
-use Rattle.trace.proofs.item_at.Statement.{statement}
-use Rattle.trace.proofs.item_at.Tie as tie
+use Rattle.records.proofs.item_at.Statement.{statement}
+use Rattle.records.proofs.item_at.Tie as tie
 
 returns : tie.Need-returns
 returns c = sym (endsAt _ _ (c .if1 .taken))

@@ -6,9 +6,10 @@ use Prim.Native.Nat.{ℕ, _+_, _*_}
 use lib.Dec.{eqb, ltb}
 use lib.ListN.{length, getD}
 use Rattle.circuit.specs.Groups.{badGroup}
-use Rattle.trace.specs.declared.Recorded.{Recorded}
-use Rattle.trace.specs.declared.Item.{Item}
-use Rattle.trace.specs.declared.Item.the-variants.{Event, NoEvent, Short, End}
+use Rattle.records.specs.declared.Group.{Group}
+use Rattle.records.specs.declared.Recorded.{Recorded}
+use Rattle.records.specs.declared.Item.{Item}
+use Rattle.records.specs.declared.Item.the-variants.{Event, NoEvent, Short, End}
 
 -- the octets of a record, its kind included, by its kind: 0 the group (own code, far code, count), 1 a signal (circuit, heading, detail),
 -- 2 a command (circuit, command, detail), 3 a timer (circuit, timer)
@@ -51,6 +52,9 @@ farIn s = two s 3
 
 abbrev pub circuitsIn : List ℕ → ℕ
 circuitsIn s = two s 5
+
+abbrev pub groupIn : List ℕ → Group
+groupIn s = record { own = record { 0 = ownIn s }; far = record { 0 = farIn s }; circuits = circuitsIn s }
 
 -- a group's record of another kind, or refused
 abbrev pub refusedStart : List ℕ → Bool

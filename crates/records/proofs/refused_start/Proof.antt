@@ -1,8 +1,8 @@
--- `trace::refused_start` meets its contract.
+-- `records::refused_start` meets its contract.
 -- Assumes nothing.
 use borrow.Author.Needs.{needs}
-use Rattle.trace.proofs.refused_start.Statement.{statement}
-use Rattle.trace.proofs.refused_start.Tie as tie
+use Rattle.records.proofs.refused_start.Statement.{statement}
+use Rattle.records.proofs.refused_start.Tie as tie
 
 two-requires : tie.Need-two-requires
 two-requires c κs = search needs

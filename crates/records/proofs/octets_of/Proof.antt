@@ -1,9 +1,9 @@
--- `trace::octets_of` meets its contract.
+-- `records::octets_of` meets its contract.
 -- Assumes nothing.
-use Rattle.trace.specs.Records.{octetsOf}
+use Rattle.records.specs.Records.{octetsOf}
 use borrow.Author.Tests.{ne-eqb}
-use Rattle.trace.proofs.octets_of.Statement.{statement}
-use Rattle.trace.proofs.octets_of.Tie as tie
+use Rattle.records.proofs.octets_of.Statement.{statement}
+use Rattle.records.proofs.octets_of.Tie as tie
 
 returns : tie.Need-returns
 unfolding octetsOf

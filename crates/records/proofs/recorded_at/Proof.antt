@@ -1,11 +1,11 @@
--- `trace::recorded_at` meets its contract.
+-- `records::recorded_at` meets its contract.
 -- Assumes nothing.
-use Rattle.trace.specs.Records.{recorded}
-use Rattle.trace.proofs.Items.{octet-drop}
+use Rattle.records.specs.Records.{recorded}
+use Rattle.records.proofs.Items.{octet-drop}
 use native.Mathlib.Nat.{add-zero, add-assoc}
 use borrow.Author.Needs.{needs}
-use Rattle.trace.proofs.recorded_at.Statement.{statement}
-use Rattle.trace.proofs.recorded_at.Tie as tie
+use Rattle.records.proofs.recorded_at.Statement.{statement}
+use Rattle.records.proofs.recorded_at.Tie as tie
 
 octet-requires : tie.Need-octet-requires
 octet-requires c κs = search needs

@@ -8,9 +8,9 @@ use native.Mathlib.Nat.{add-zero}
 use native.Mathlib.Omega.{arith}
 use lib.ListN.{length, drop, length-drop}
 use lib.Seq.{getD-drop}
-use Rattle.trace.specs.declared.Item.the-variants.{Event, NoEvent, Short, End}
-use Rattle.trace.specs.Records.{octet, noEvent, octetsOf, recorded, item}
-use Rattle.trace.specs.Items.{ends, noEventThere, isShort, isEvent}
+use Rattle.records.specs.declared.Item.the-variants.{Event, NoEvent, Short, End}
+use Rattle.records.specs.Records.{octet, noEvent, octetsOf, recorded, item}
+use Rattle.records.specs.Items.{ends, noEventThere, isShort, isEvent}
 
 pub octet-drop : (s : List ℕ) (at i : ℕ) → octet (drop at s) i ≡ octet s (at + i)
 octet-drop s at i = getD-drop at s i 0

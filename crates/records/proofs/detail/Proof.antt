@@ -1,8 +1,8 @@
--- `trace::detail` meets its contract.
+-- `records::detail` meets its contract.
 -- Assumes nothing.
 use borrow.Author.Tests.{ne-eqb}
-use Rattle.trace.proofs.detail.Statement.{statement}
-use Rattle.trace.proofs.detail.Tie as tie
+use Rattle.records.proofs.detail.Statement.{statement}
+use Rattle.records.proofs.detail.Tie as tie
 
 returns : tie.Need-returns
 returns c = rw (c .if1 .taken)
