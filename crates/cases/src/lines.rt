@@ -1,7 +1,7 @@
 // Reading the table of cases an octet at a time: numbers apart by spaces, hexadecimal after an x; `#` starts a remark that ends with its line.
 
 // What has been read of the line: its numbers so far, the number that is being read and its base (0: none is), whether it is a remark.
-pub struct Line {
+pub(crate) struct Line {
     pub fields: [u32; 48],
     pub count: usize,
     pub value: u32,
@@ -9,7 +9,7 @@ pub struct Line {
     pub remark: bool,
 }
 
-pub fn empty() -> Line {
+pub(crate) fn empty() -> Line {
     Line {
         fields: [0u32; 48],
         count: 0,
@@ -29,7 +29,7 @@ fn digit(byte: u8) -> u32 {
 }
 
 // Ends the number that is being read. A number too many is counted and not kept.
-pub fn ended(line: Line) -> Line {
+pub(crate) fn ended(line: Line) -> Line {
     if line.base == 0 {
         return line;
     }
@@ -74,7 +74,7 @@ fn with_digit(line: Line, d: u32) -> Line {
 }
 
 // The line with one more character, which does not end it.
-pub fn read(line: Line, byte: u8) -> Line {
+pub(crate) fn read(line: Line, byte: u8) -> Line {
     if line.remark {
         return line;
     }

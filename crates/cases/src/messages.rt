@@ -73,7 +73,7 @@ fn read_in(f: &[u32], message: &mut [u8], out: &mut [u8]) -> bool {
     }
 }
 
-pub fn read_right(f: &[u32]) -> bool {
+pub(crate) fn read_right(f: &[u32]) -> bool {
     let mut message = [0u8; 32];
     let mut out = [BEFORE; 24];
     let n = size(at(f, 5));
@@ -112,7 +112,7 @@ fn write_in(f: &[u32], address: &mut [u8], out: &mut [u8]) -> bool {
     holds(out, length, expected)
 }
 
-pub fn write_right(f: &[u32]) -> bool {
+pub(crate) fn write_right(f: &[u32]) -> bool {
     let mut address = [0u8; 16];
     let mut out = [BEFORE; 24];
     let n = size(at(f, 9));

@@ -79,7 +79,7 @@ fn right_in(space: &mut [u8], f: [u32; 48]) -> bool {
 }
 
 // A record more than a group may have is the longest table that is tried.
-pub fn right(f: [u32; 48]) -> bool {
+pub(crate) fn right(f: [u32; 48]) -> bool {
     let mut space = [0u8; 8194];
     right_in(&mut space, f)
 }

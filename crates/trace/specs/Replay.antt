@@ -3,10 +3,12 @@
 use mathlib.Core.Bool.{cond}
 use mathlib.Core.List.{List, [], _∷_, _++_}
 use Prim.Native.Nat.{ℕ, zero, suc, _+_, _-_, _*_}
-use lib.ListN.{length, drop, replicate}
+use lib.ListN.{length, drop}
 use Rattle.codes.specs.Numbers.{eventOf}
 use Rattle.codes.specs.Headings.{firstHeading, secondHeading}
 use Rattle.group.specs.declared.Answer.{Answer}
+use Rattle.group.specs.Layout as grouped
+use Rattle.group.specs.Layout.{recordOctets}
 use Rattle.group.specs.Table.{Step, stepIn}
 use Rattle.text.specs.declared.Line.{Line}
 use Rattle.text.specs.Lines.{line, groupLine, endLine, cutLine, badGroupLine}
@@ -60,9 +62,9 @@ lines r table s = linesWithin (suc (length s)) r table s
 abbrev pub opened : List ℕ → Running
 opened s = record { own = record { 0 = ownIn s }; far = record { 0 = farIn s }; circuits = circuitsIn s; next = 1 }
 
--- all records idle: state 0, no flag, two octets each
+-- all records idle
 abbrev pub idle : ℕ → List ℕ
-idle circuits = replicate (2 * circuits) 0
+idle circuits = grouped.idle (recordOctets * circuits)
 
 -- the whole text
 unfoldable pub replay : List ℕ → List ℕ

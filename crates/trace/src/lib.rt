@@ -289,7 +289,7 @@ pub fn table_octets(stage: Stage) -> usize
     match stage {
         Stage::Start => 0,
         Stage::Bad => 0,
-        Stage::Runs(r) => 2 * at_most(r.circuits as usize, 4096),
+        Stage::Runs(r) => group::RECORD_OCTETS * at_most(r.circuits as usize, 4096),
         Stage::Cut(_) => 0,
     }
 }
