@@ -4,3 +4,4 @@ pub mod Always
 pub mod Refused
 pub mod Erred
 pub mod Cases
+pub mod Once

@@ -14,6 +14,7 @@ use Rattle.circuit.specs.declared.Event.the-variants.{Arrives, Ordered, RunsOut
 use Rattle.circuit.specs.Records.{valid}
 use Rattle.codes.specs.declared.Found.{Found}
 use Rattle.codes.specs.declared.Found.the-variants.{Is, Missing}
+use Rattle.codes.specs.Numbers.{refusalOf}
 use Rattle.commands.specs.Tables.{late}
 
 abbrev pub within : ℕ → ℕ → ℕ → Bool
@@ -63,4 +64,4 @@ refusal r (RunsOut t) = cond (runs r t) 0 6
 -- the refusal of an event that may be none, on any record; 0: it is accepted
 abbrev pub refusalFound : Record → Found → ℕ
 refusalFound r (Is e) = cond (valid r) (refusal r e) 12
-refusalFound r Missing = cond (valid r) 3 12
+refusalFound r Missing = cond (valid r) (refusalOf Missing) 12

@@ -9,6 +9,7 @@ use Rattle.circuit.specs.Records.{valid}
 use Rattle.circuit.specs.Rows.{refused}
 use Rattle.codes.specs.declared.Found.{Found}
 use Rattle.codes.specs.declared.Found.the-variants.{Is, Missing}
+use Rattle.codes.specs.Numbers.{refusalOf}
 use Rattle.signals.specs.Table.{onSignal}
 use Rattle.commands.specs.Tables.{onCommand, onTimer}
 
@@ -22,7 +23,7 @@ byTables c r (RunsOut t) = onTimer r t
 unfoldable pub step : (c : Bool) → Record → Event → Outcome
 step c r e = cond (valid r) (byTables c r e) (refused 12 r)
 
--- an event by its numbers, which may be none: 12 still comes before 3
+-- an event by its numbers, which may be none: 12 still comes before the 3 of that
 unfoldable pub stepFound : (c : Bool) → Record → Found → Outcome
 stepFound c r (Is e) = step c r e
-stepFound c r Missing = cond (valid r) (refused 3 r) (refused 12 r)
+stepFound c r Missing = cond (valid r) (refused (refusalOf Missing) r) (refused 12 r)
