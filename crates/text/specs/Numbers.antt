@@ -7,7 +7,7 @@ use Prim.Native.Nat.{ℕ, zero, suc, _+_, _*_, _-_, _/_, _%_, _^_, _<_, _≤_}
 use native.Mathlib.Nat.{pow-suc}
 use native.Mathlib.Omega.{arith}
 use lib.Dec.{ltb}
-use lib.ListN.{length, length-append}
+use lib.ListN.{length, getD, length-append, List·getD-append}
 use borrow.Author.Tests.{ltb-true, ltb-false, lt-ltb, le-ltb}
 
 -- a proof by cases on a test
@@ -69,3 +69,45 @@ decimal-length (suc k) n h =
 
 pub decimal-64 : (n : ℕ) → n < 2 ^ 64 → length (decimal n) ≤ 20
 decimal-64 n h = decimal-length 19 n (omega arith)
+
+-- the number that digits stand for, behind those that stand for `before`
+unfoldable pub valueFrom : ℕ → List ℕ → ℕ
+valueFrom before [] = before
+valueFrom before (d ∷ ds) = valueFrom (10 * before + (d - 48)) ds
+
+valueLast : (before : ℕ) (ds : List ℕ) (d : ℕ) → valueFrom before (ds ++ (d ∷ [])) ≡ 10 * valueFrom before ds + (d - 48)
+unfolding valueFrom
+valueLast before [] d = refl
+valueLast before (e ∷ ds) d = valueLast (10 * before + (e - 48)) ds d
+
+digitsValue : (k n : ℕ) → n < k → valueFrom 0 (digitsWithin k n) ≡ n
+unfolding digitsWithin valueFrom
+digitsValue zero n h = absurd (omega arith)
+digitsValue (suc k) n h =
+    byTest (ltb n 10)
+    (λ e. rw e (omega arith))
+    (λ e. let l : 10 ≤ n = ltb-false _ _ e in rw (e, valueLast, digitsValue k (n / 10) (omega arith)) (omega arith))
+
+-- the decimal digits of a number stand for it
+pub decimalValue : (n : ℕ) → valueFrom 0 (decimal n) ≡ n
+unfolding decimal
+decimalValue n = digitsValue (suc n) n (omega arith)
+
+digitsSome : (k n : ℕ) → n < k → 0 < length (digitsWithin k n)
+unfolding digitsWithin
+digitsSome zero n h = absurd (omega arith)
+digitsSome (suc k) n h = byTest (ltb n 10) (λ e. rw e (omega arith)) (λ e. rw (e, length-append) (omega arith))
+
+-- and the first is not 0, but in 0 itself
+digitsFirst : (k n : ℕ) → n < k → 0 < n → 48 < getD (digitsWithin k n) 0 0
+unfolding digitsWithin
+digitsFirst zero n h p = absurd (omega arith)
+digitsFirst (suc k) n h p =
+    byTest (ltb n 10)
+    (λ e. rw e (omega arith))
+    (λ e. let l : 10 ≤ n = ltb-false _ _ e in
+    rw (e, List·getD-append (digitsWithin k (n / 10)) ((48 + n % 10) ∷ []) 0 0 (digitsSome k (n / 10) (omega arith))) (digitsFirst k (n / 10) (omega arith) (omega arith)))
+
+pub decimalFirst : (n : ℕ) → 0 < n → 48 < getD (decimal n) 0 0
+unfolding decimal
+decimalFirst n p = digitsFirst (suc n) n (omega arith) p
