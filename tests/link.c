@@ -407,8 +407,6 @@ static void no_octets(void)
 static void vast_lengths(void)
 {
     uint8_t *vast = vast_make(), octets[6], out[TUP_MESSAGE_OCTETS];
-    if (vast == NULL)
-        return;
     put_label(octets, 1, 2, 3);
     octets[5] = TUP_CLF;
     if (tup_read(1, 2, 4, octets, sizeof octets, vast, VAST + 1) != 0)

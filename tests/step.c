@@ -218,7 +218,7 @@ static void vast_table(void)
 {
     uint8_t *vast = vast_make();
     now.len = VAST + TUP_TABLE_OCTETS(2);
-    if (vast != NULL && tup_step(2, 1, vast, now.len, 0, TUP_COMMAND, TUP_RESTART, 0) != TUP_NO_SUCH_GROUP)
+    if (tup_step(2, 1, vast, now.len, 0, TUP_COMMAND, TUP_RESTART, 0) != TUP_NO_SUCH_GROUP)
         differ("a table of more than 4 GiB is not refused 1");
 }
 
