@@ -417,9 +417,10 @@ static void vast_lengths(void)
         differ("a message of more than 4 GiB is not refused 7");
 }
 
-int main(void)
+int main(int argc, char **argv)
 {
-    uint32_t times = long_run() ? 10000000 : 500000;
+    int all = argc > 1 && strcmp(argv[1], "all") == 0;
+    uint32_t times = all ? 10000000 : 500000;
     harness_begin("link", describe);
     input = room_make();
     output = room_make();
