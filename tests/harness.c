@@ -40,13 +40,19 @@ void harness_begin(const char *name, void (*describe)(void))
     signal(SIGBUS, touched);
 }
 
+/* A line of the program's own. */
+static void say(const char *format, va_list arguments)
+{
+    printf("%s: ", program);
+    vprintf(format, arguments);
+    printf("\n");
+}
+
 void differ(const char *format, ...)
 {
     va_list arguments;
     va_start(arguments, format);
-    printf("%s: ", program);
-    vprintf(format, arguments);
-    printf("\n");
+    say(format, arguments);
     va_end(arguments);
     fail();
 }
@@ -55,9 +61,7 @@ void covered(const char *format, ...)
 {
     va_list arguments;
     va_start(arguments, format);
-    printf("%s: ", program);
-    vprintf(format, arguments);
-    printf("\n");
+    say(format, arguments);
     va_end(arguments);
 }
 
