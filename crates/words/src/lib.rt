@@ -1,0 +1,108 @@
+// Octets and words of eight octets, lowest first, in a lent slice: beyond its end there are zeros, which stay.
+ghost use mathlib.Core.Path.{_≡_};
+ghost use Prim.Native.Nat.{_+_, _*_, _%_, _<_};
+ghost use lib.ListN.{getD, set};
+ghost use Rattle.words.specs.Words.{word, put, putWord};
+
+// The octet k behind a place.
+pub fn octet(xs: &[u8], at: usize, k: usize) -> u8
+    ensures { λ r. ⌜ r ≡ getD (now (xs .entry)) (at + k) 0 ⌝ }
+{
+    if at < xs.len() {
+        if k < xs.len() - at { xs[at + k] } else { 0 }
+    } else {
+        0
+    }
+}
+
+pub fn put_octet(xs: &mut [u8], at: usize, k: usize, value: u8)
+    ensures { λ r. ⌜ now (xs .exit) ≡ set (now (xs .entry)) (at + k) value ⌝ }
+{
+    if at < xs.len() {
+        if k < xs.len() - at {
+            xs[at + k] = value;
+        }
+    }
+}
+
+fn wide(x: u8) -> u64
+    ensures { λ r. ⌜ (r ≡ x) × (r < 256) ⌝ }
+{
+    x as u64
+}
+
+fn number(a: u8, b: u8, c: u8, d: u8, e: u8, f: u8, g: u8, h: u8) -> u64
+    ensures { λ r. ⌜ r ≡ a + 256 * (b + 256 * (c + 256 * (d + 256 * (e + 256 * (f + 256 * (g + 256 * h)))))) ⌝ }
+{
+    wide(a) + 256 * (wide(b) + 256 * (wide(c) + 256 * (wide(d) + 256 * (wide(e) + 256 * (wide(f) + 256 * (wide(g) + 256 * wide(h)))))))
+}
+
+fn low(v: u64) -> u8
+    ensures { λ r. ⌜ r ≡ v % 256 ⌝ }
+{
+    (v % 256) as u8
+}
+
+// A word whose octets may not all be there.
+fn short_word(xs: &[u8], at: usize) -> u64
+    ensures { λ r. ⌜ r ≡ word (now (xs .entry)) at ⌝ }
+{
+    number(
+        octet(xs, at, 0),
+        octet(xs, at, 1),
+        octet(xs, at, 2),
+        octet(xs, at, 3),
+        octet(xs, at, 4),
+        octet(xs, at, 5),
+        octet(xs, at, 6),
+        octet(xs, at, 7),
+    )
+}
+
+// The word at a place.
+pub fn word(xs: &[u8], at: usize) -> u64
+    ensures { λ r. ⌜ r ≡ word (now (xs .entry)) at ⌝ }
+{
+    if xs.len() <= at {
+        return short_word(xs, at);
+    }
+    if xs.len() - at < 8 {
+        return short_word(xs, at);
+    }
+    number(
+        xs[at],
+        xs[at + 1],
+        xs[at + 2],
+        xs[at + 3],
+        xs[at + 4],
+        xs[at + 5],
+        xs[at + 6],
+        xs[at + 7],
+    )
+}
+
+fn put_low(xs: &mut [u8], at: usize, v: u64)
+    ensures { λ r. ⌜ now (xs .exit) ≡ put 4 (now (xs .entry)) at v ⌝ }
+{
+    put_octet(xs, at, 0, low(v));
+    put_octet(xs, at, 1, low(v / 0x100));
+    put_octet(xs, at, 2, low(v / 0x10000));
+    put_octet(xs, at, 3, low(v / 0x1000000));
+}
+
+fn put_high(xs: &mut [u8], at: usize, v: u64)
+    ensures { λ r. ⌜ now (xs .exit) ≡ put 4 (now (xs .entry)) (at + 4) v ⌝ }
+{
+    put_octet(xs, at, 4, low(v));
+    put_octet(xs, at, 5, low(v / 0x100));
+    put_octet(xs, at, 6, low(v / 0x10000));
+    put_octet(xs, at, 7, low(v / 0x1000000));
+}
+
+// Puts a word at a place.
+pub fn put_word(xs: &mut [u8], at: usize, v: u64)
+    ensures { λ r. ⌜ now (xs .exit) ≡ putWord (now (xs .entry)) at v ⌝ }
+{
+    put_low(xs, at, v);
+    put_high(xs, at, v / 0x100000000);
+}
