@@ -1,56 +1,54 @@
-// Where a circuit's record lies in a lent table of octets: two octets each, the state and the flags, and record i is circuit i.
+// Where things lie in a lent table of octets: first the counter of releases, eight octets; then a record to each circuit, ten octets each: the
+// state, the flags and the release rank of eight. Record i is circuit i; counter and ranks have their lowest octet first.
 use circuit::Cic;
 use circuit::Record;
 ghost use mathlib.Core.Path.{_≡_};
-ghost use Prim.Native.Nat.{_*_, _≤_};
-ghost use lib.ListN.{getD, set};
-ghost use Rattle.group.specs.Layout.{recordOctets, recordsIn, stateAt, flagsAt, bit, flagsOf, recordOf, put};
+ghost use Prim.Native.Nat.{_≤_};
+ghost use Rattle.group.specs.Layout.{tableOctets, recordsIn, counterIn, stateAt, flagsAt, bit, flagsOf, recordOf, put, ranked};
 
-pub const RECORD_OCTETS: usize = 2;
+const COUNTER_OCTETS: usize = 8;
+const RECORD_OCTETS: usize = 10;
 
-// The records in so many octets: none where they are no whole number of records.
+// The octets of a table of so many circuits. A circuit's record begins where the table of those before it would end.
+pub fn table_octets(circuits: u32) -> usize
+    ensures octets { λ r. ⌜ r ≡ tableOctets circuits ⌝ }
+    ensures low { λ r. ⌜ r ≤ 0xa00000000 ⌝ }
+{
+    COUNTER_OCTETS + RECORD_OCTETS * (circuits as usize)
+}
+
+// The records in so many octets: none where they are no counter and whole number of records.
 pub fn records(octets: usize) -> usize
     ensures { λ r. ⌜ r ≡ recordsIn octets ⌝ }
 {
-    if octets % RECORD_OCTETS == 0 {
-        octets / RECORD_OCTETS
+    if octets < COUNTER_OCTETS {
+        return 0;
+    }
+    let rest = octets - COUNTER_OCTETS;
+    if rest % RECORD_OCTETS == 0 {
+        rest / RECORD_OCTETS
     } else {
         0
     }
 }
 
-fn place(cic: Cic) -> usize
-    ensures { λ r. ⌜ (r ≡ recordOctets * cic .0) × (r ≤ 0x1fffffffe) ⌝ }
+pub fn counter_in(table: &[u8]) -> u64
+    ensures { λ r. ⌜ r ≡ counterIn (now (table .entry)) ⌝ }
 {
-    RECORD_OCTETS * (cic.0 as usize)
-}
-
-// An octet read and written where it is in the table: beyond its end there are zeros, which stay.
-fn octet(table: &[u8], at: usize) -> u8
-    ensures { λ r. ⌜ r ≡ getD (now (table .entry)) at 0 ⌝ }
-{
-    if at < table.len() { table[at] } else { 0 }
-}
-
-fn set_octet(table: &mut [u8], at: usize, value: u8)
-    ensures { λ r. ⌜ now (table .exit) ≡ set (now (table .entry)) at value ⌝ }
-{
-    if at < table.len() {
-        table[at] = value;
-    }
+    words::word(table, 0)
 }
 
 // The octets of a circuit.
 pub fn state_at(table: &[u8], cic: Cic) -> u8
     ensures { λ r. ⌜ r ≡ stateAt (now (table .entry)) (cic .0) ⌝ }
 {
-    octet(table, place(cic))
+    words::octet(table, table_octets(cic.0), 0)
 }
 
 pub fn flags_at(table: &[u8], cic: Cic) -> u8
     ensures { λ r. ⌜ r ≡ flagsAt (now (table .entry)) (cic .0) ⌝ }
 {
-    octet(table, place(cic) + 1)
+    words::octet(table, table_octets(cic.0), 1)
 }
 
 fn bit(set: bool, worth: u8) -> u8
@@ -78,11 +76,19 @@ pub fn record_of(state: u8, flags: u8) -> Record
     }
 }
 
-// Puts a record at a circuit.
+// Puts a record at a circuit, which keeps its rank.
 pub fn put(table: &mut [u8], cic: Cic, rec: Record)
     ensures { λ r. ⌜ now (table .exit) ≡ put (now (table .entry)) (cic .0) rec ⌝ }
 {
-    let at = place(cic);
-    set_octet(table, at, rec.state);
-    set_octet(table, at + 1, flags_of(rec));
+    let at = table_octets(cic.0);
+    words::put_octet(table, at, 0, rec.state);
+    words::put_octet(table, at, 1, flags_of(rec));
+}
+
+// Sets the counter, and the circuit takes it as its rank.
+pub fn put_rank(table: &mut [u8], cic: Cic, count: u64)
+    ensures { λ r. ⌜ now (table .exit) ≡ ranked (now (table .entry)) (cic .0) count ⌝ }
+{
+    words::put_word(table, 0, count);
+    words::put_word(table, table_octets(cic.0) + 2, count);
 }

@@ -6,9 +6,10 @@ use circuit::Outcome;
 use circuit::PointCode;
 use circuit::Sends;
 use codes::Found;
-pub use layout::RECORD_OCTETS;
+pub use layout::table_octets;
 ghost use mathlib.Core.Path.{_≡_};
-ghost use Rattle.group.specs.Table.{refusal, refusedAt, taken, landed, onCircuit, stepIn};
+ghost use Rattle.step.specs.Frees.{freed};
+ghost use Rattle.group.specs.Table.{refusal, refusedAt, taken, freeing, accepted, landed, onCircuit, stepIn};
 
 // What an event on a circuit answers: the refusal's number, 0 where there is none; the record's state and flags after it; the signals; the
 // indication.
@@ -55,15 +56,50 @@ fn refused_at(n: u8, table: &[u8], cic: Cic) -> Answer
     refusal(n, state, flags)
 }
 
+// Whether an event takes a record from another state to idle.
+fn frees(before: u8, o: Outcome) -> bool
+    ensures { λ r. ⌜ r ≡ freed before o ⌝ }
+{
+    let after = o.after;
+    circuit::both(before != 0, after.state == 0)
+}
+
+// An event that frees the circuit: the counter goes up by one and the record takes it.
+fn free(table: &mut [u8], cic: Cic, o: Outcome) -> Answer
+    ensures answers { λ r. ⌜ r ≡ freeing (now (table .entry)) (cic .0) o .answer ⌝ }
+    ensures leaves { λ r. ⌜ now (table .exit) ≡ freeing (now (table .entry)) (cic .0) o .table ⌝ }
+{
+    let count = layout::counter_in(table);
+    if 0xffffffffffffffff <= count {
+        return refused_at(13, table, cic);
+    }
+    let after = o.after;
+    layout::put(table, cic, after);
+    layout::put_rank(table, cic, count + 1);
+    taken(o)
+}
+
+// An event that the circuit's step does not refuse.
+fn accept(table: &mut [u8], cic: Cic, o: Outcome) -> Answer
+    ensures answers { λ r. ⌜ r ≡ accepted (now (table .entry)) (cic .0) o .answer ⌝ }
+    ensures leaves { λ r. ⌜ now (table .exit) ≡ accepted (now (table .entry)) (cic .0) o .table ⌝ }
+{
+    let state = layout::state_at(table, cic);
+    if frees(state, o) {
+        return free(table, cic, o);
+    }
+    let after = o.after;
+    layout::put(table, cic, after);
+    taken(o)
+}
+
 // What one circuit's step says is put into the table and answered.
 fn land(table: &mut [u8], cic: Cic, o: Outcome) -> Answer
     ensures answers { λ r. ⌜ r ≡ landed (now (table .entry)) (cic .0) o .answer ⌝ }
     ensures leaves { λ r. ⌜ now (table .exit) ≡ landed (now (table .entry)) (cic .0) o .table ⌝ }
 {
     if o.refusal == 0 {
-        let after = o.after;
-        layout::put(table, cic, after);
-        taken(o)
+        accept(table, cic, o)
     } else {
         refused_at(o.refusal, table, cic)
     }
