@@ -1,7 +1,8 @@
 /* Circuit control of one group of both-way TUP circuits, and the reader and the writer of its messages, for a host in C.
  *
  * What is proved. For every input, refused or not, the contracts of the three functions below determine the answer and the later
- * contents of all lent memory, and these are what document 01 says. The compiler, this header and the host are outside the proof.
+ * contents of all lent memory, and these are what document 01, as document 02 has changed it, says. The compiler, this header
+ * and the host are outside the proof.
  *
  * What the host owes.
  * - Pointers and lengths are true: the octets lent are there, and may be written where the pointer is not const. With length 0
@@ -25,14 +26,19 @@
 extern "C" {
 #endif
 
-/* The lent table: record i is circuit i, and a table of zeros is an idle group. A length that is not that of 1 to 4096 whole
-   records is refused 1. */
-#define TUP_RECORD_OCTETS 2
+/* The lent table: the counter of releases, then the records; record i is circuit i, and a table of zeros is an idle group. An
+   event that takes a circuit from another state to idle raises the counter by one, and the circuit's record takes it as its
+   release rank; no other event changes the counter or a rank. So, from zeros, of two circuits the one of lower rank was freed
+   earlier, and one of rank 0 was not freed yet. Counter and ranks are not judged: any are taken as they are lent.
+   A length that is not that of a counter and 1 to 4096 whole records is refused 1. */
+#define TUP_COUNTER_OCTETS 8 /* at the table's start, lowest first */
+#define TUP_RECORD_OCTETS 10
 #define TUP_RECORD_STATE 0
 #define TUP_RECORD_FLAGS 1
+#define TUP_RECORD_RANK 2 /* eight octets, lowest first */
 #define TUP_CIRCUITS_MAX 4096
-#define TUP_TABLE_OCTETS(circuits) ((size_t)(circuits) * TUP_RECORD_OCTETS)
-#define TUP_RECORD_AT(circuit) ((size_t)(circuit) * TUP_RECORD_OCTETS)
+#define TUP_TABLE_OCTETS(circuits) (TUP_COUNTER_OCTETS + (size_t)(circuits) * TUP_RECORD_OCTETS)
+#define TUP_RECORD_AT(circuit) (TUP_COUNTER_OCTETS + (size_t)(circuit) * TUP_RECORD_OCTETS)
 
 /* What the reader puts into its output: the places of a message's fields. Fields that the heading does not have are 0. */
 #define TUP_MESSAGE_CIRCUIT 0    /* two octets, lowest first */
@@ -93,7 +99,8 @@ enum tup_refusal {
     TUP_NO_SUCH_HEADING = 9,
     TUP_WRONG_ADDRESS = 10,
     TUP_OUTPUT_TOO_SHORT = 11,
-    TUP_BAD_RECORD = 12
+    TUP_BAD_RECORD = 12,
+    TUP_COUNTER_FULL = 13 /* the event would free the circuit, and the counter is at 2^64 - 1 */
 };
 
 /* Heading octets, H0 + 16 * H1 of Q.723. From SEC on they are the failures. */
@@ -151,8 +158,9 @@ enum tup_timer {
     TUP_TIMER_BLOCK_REPEAT = 6
 };
 
-/* One event on one circuit of the table. Taken, it changes that circuit's record alone; refused, nothing.
-   Order of refusals: 1, 2, 12, 3, then 5, 4 or 6. The answer is taken apart by the tup_answer_ functions below. */
+/* One event on one circuit of the table. Taken, it changes that circuit's record alone, and the counter if it frees the circuit;
+   refused, nothing. Order of refusals: 1, 2, 12, 3, then 5, 4 or 6, then 13. The answer is taken apart by the tup_answer_
+   functions below; the rank is read in the table. */
 uint64_t tup_step(uint32_t own, uint32_t far, uint8_t *table, size_t table_len, uint32_t cic, uint32_t kind, uint32_t code,
                   uint32_t detail);
 
@@ -200,6 +208,21 @@ static inline uint32_t tup_record_state(const uint8_t *table, uint32_t circuit)
 static inline uint32_t tup_record_flags(const uint8_t *table, uint32_t circuit)
 {
     return table[TUP_RECORD_AT(circuit) + TUP_RECORD_FLAGS];
+}
+
+/* Eight octets of a table, lowest first. */
+static inline uint64_t tup_eight_octets(const uint8_t *octets)
+{
+    uint64_t number = 0;
+    int i;
+    for (i = 7; i >= 0; i--)
+        number = number << 8 | octets[i];
+    return number;
+}
+static inline uint64_t tup_counter(const uint8_t *table) { return tup_eight_octets(table); }
+static inline uint64_t tup_record_rank(const uint8_t *table, uint32_t circuit)
+{
+    return tup_eight_octets(table + TUP_RECORD_AT(circuit) + TUP_RECORD_RANK);
 }
 
 #ifdef __cplusplus

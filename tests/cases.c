@@ -1,6 +1,6 @@
 /* Cases written down by hand, each with the answer that document 01 gives: its own list (P1 to P10 and the ones to be run by a
-   program), and one for each place where its words could be read in two ways. They hold the archive, and the reference as well,
-   to numbers that neither of them computed. */
+   program), and one for each place where its words could be read in two ways; then those of release ranks and refusal 13, which
+   document 02's T-01 adds. They hold the archive, and the reference as well, to numbers that neither of them computed. */
 #include "harness.h"
 #include "reference.h"
 #include "tup.h"
@@ -101,6 +101,55 @@ static const struct step_case {
     {"a timer has no detail", 0, 1, 0, T, 1, 1, 3, 1, 0, 0, 0, 0},
 };
 
+#define FULL UINT64_MAX
+
+/* The counter and the circuit's rank before an event and after it. */
+struct ranks {
+    uint64_t counter, rank, new_counter, new_rank;
+};
+
+static const struct rank_case {
+    struct step_case step;
+    struct ranks ranks;
+} rank_cases[] = {
+    {{"the first freed gets 1", 0, 6, 0, S, 0x46, 0, 0, 0, 0, 5, 0x17, 0}, {0, 0, 1, 1}},
+    {{"freed again: the old rank is lost", 0, 6, 0, S, 0x46, 0, 0, 0, 0, 5, 0x17, 0}, {41, 7, 42, 42}},
+    {{"freed by RLG, the marks stay", 0, 5, 7, S, 0x17, 0, 0, 0, 7, 5, 0, 0}, {1, 1, 2, 2}},
+    {{"freed by RSC, with own block", 0, 9, 3, S, 0x77, 0, 0, 0, 5, 5, 0x27, 0x17}, {9, 4, 10, 10}},
+    {{"freed from a seizure that yields", 1, 1, 0, S, 0x46, 0, 0, 0, 0, 6, 0x17, 0}, {9, 4, 10, 10}},
+    {{"a carry into the second octet", 0, 11, 0, S, 0x46, 0, 0, 0, 0, 5, 0x17, 0}, {255, 0, 256, 256}},
+    {{"a carry beyond 32 bits", 0, 12, 0, S, 0x17, 0, 0, 0, 0, 5, 0, 0}, {0xFFFFFFFF, 1, 0x100000000, 0x100000000}},
+    {{"a lent rank above the counter", 0, 6, 0, S, 0x46, 0, 0, 0, 0, 5, 0x17, 0}, {3, FULL, 4, 4}},
+    {{"it stays while nothing is freed", 0, 0, 0, C, 1, 0, 0, 1, 0, 0, 0x11, 0}, {3, FULL, 3, FULL}},
+    {{"the last rank there is", 0, 6, 0, S, 0x46, 0, 0, 0, 0, 5, 0x17, 0}, {FULL - 1, 0, FULL, FULL}},
+    {{"from idle to idle by CLF", 0, 0, 0, S, 0x46, 0, 0, 0, 0, 0, 0x17, 0}, {3, 2, 3, 2}},
+    {{"from idle to idle by RSC", 0, 0, 3, S, 0x77, 0, 0, 0, 5, 0, 0x27, 0x17}, {3, 2, 3, 2}},
+    {{"from idle to idle by IAM with own block", 0, 0, 1, S, 0x11, 0, 0, 0, 5, 7, 0x27, 0}, {3, 2, 3, 2}},
+    {{"from idle to idle by a block", 0, 0, 0, C, 8, 0, 0, 0, 5, 0, 0x27, 0}, {3, 2, 3, 2}},
+    {{"CLF discarded in 5, controlling", 0, 5, 0, S, 0x46, 0, 0, 5, 0, 7, 0, 0}, {3, 2, 3, 2}},
+    {{"RSC in 12 stays there", 0, 12, 0, S, 0x77, 0, 0, 12, 0, 0, 0x17, 0}, {3, 2, 3, 2}},
+    {{"a restart keeps the rank", 0, 9, 7, C, 10, 0, 0, 12, 0, 0, 0x77, 0}, {3, 2, 3, 2}},
+    {{"full: CLF in 6", 0, 6, 0, S, 0x46, 0, 13, 6, 0, 0, 0, 0}, {FULL, 5, FULL, 5}},
+    {{"full: RSC in 9 sets no mark and sends no BLO", 0, 9, 3, S, 0x77, 0, 13, 9, 3, 0, 0, 0}, {FULL, FULL, FULL, FULL}},
+    {{"full: RLG in 5", 0, 5, 0, S, 0x17, 0, 13, 5, 0, 0, 0, 0}, {FULL, 0, FULL, 0}},
+    {{"full: RLG in 12 with far block", 0, 12, 2, S, 0x17, 0, 13, 12, 2, 0, 0, 0}, {FULL, 0, FULL, 0}},
+    {{"full: CLF in 1, not controlling", 1, 1, 0, S, 0x46, 0, 13, 1, 0, 0, 0, 0}, {FULL, 0, FULL, 0}},
+    {{"full: CLF in 5, not controlling", 1, 5, 1, S, 0x46, 0, 13, 5, 1, 0, 0, 0}, {FULL, 0, FULL, 0}},
+    {{"full: CLF in 1, controlling, frees nothing", 0, 1, 0, S, 0x46, 0, 0, 1, 0, 7, 0, 0}, {FULL, 0, FULL, 0}},
+    {{"full: CLF in idle frees nothing", 0, 0, 0, S, 0x46, 0, 0, 0, 0, 0, 0x17, 0}, {FULL, 0, FULL, 0}},
+    {{"full: RSC in idle frees nothing", 0, 0, 1, S, 0x77, 0, 0, 0, 5, 0, 0x27, 0x17}, {FULL, 0, FULL, 0}},
+    {{"full: an incoming call is taken", 0, 0, 0, S, 0x11, 0, 0, 6, 0, 1, 0, 0}, {FULL, 8, FULL, 8}},
+    {{"full: a release sends CLF", 0, 3, 0, C, 2, 0, 0, 5, 0, 0, 0x46, 0}, {FULL, 8, FULL, 8}},
+    {{"full: a restart is taken", 0, 9, 0, C, 10, 0, 0, 12, 0, 0, 0x77, 0}, {FULL, 8, FULL, 8}},
+    {{"12 comes before 13: flags", 0, 6, 4, S, 0x46, 0, 12, 6, 4, 0, 0, 0}, {FULL, 0, FULL, 0}},
+    {{"12 comes before 13: state", 0, 13, 0, S, 0x46, 0, 12, 13, 0, 0, 0, 0}, {FULL, 0, FULL, 0}},
+    {{"3 comes before 13: detail", 0, 6, 0, S, 0x46, 1, 3, 6, 0, 0, 0, 0}, {FULL, 0, FULL, 0}},
+    {{"3 comes before 13: kind", 0, 6, 0, 4, 0x46, 0, 3, 6, 0, 0, 0, 0}, {FULL, 0, FULL, 0}},
+    {{"full: a command not allowed is 5", 0, 6, 0, C, 2, 0, 5, 6, 0, 0, 0, 0}, {FULL, 0, FULL, 0}},
+    {{"full: seize with far block is 4", 0, 0, 2, C, 1, 0, 4, 0, 2, 0, 0, 0}, {FULL, 0, FULL, 0}},
+    {{"full: a timer not for the state is 6", 0, 6, 0, T, 4, 0, 6, 6, 0, 0, 0, 0}, {FULL, 0, FULL, 0}},
+};
+
 typedef uint64_t (*stepper)(uint32_t, uint32_t, uint8_t *, size_t, uint32_t, uint32_t, uint32_t, uint32_t);
 typedef uint32_t (*reader)(uint32_t, uint32_t, uint32_t, const uint8_t *, size_t, uint8_t *, size_t);
 typedef uint32_t (*writer)(uint32_t, uint32_t, uint32_t, uint32_t, uint32_t, uint32_t, uint32_t, uint32_t, const uint8_t *, size_t,
@@ -112,13 +161,23 @@ static void expect(const char *what, uint64_t got, uint64_t want)
         differ("%s is %llu and should be %llu", what, (unsigned long long)got, (unsigned long long)want);
 }
 
-static void run_step_case(stepper step, const struct step_case *c)
+static void lay_out(uint8_t table[TUP_TABLE_OCTETS(2)], uint32_t cic, uint32_t state, uint32_t flags, uint64_t counter,
+                    uint64_t rank)
 {
-    uint8_t table[TUP_TABLE_OCTETS(2)];
+    uint8_t *record = table + TUP_RECORD_AT(cic);
+    memset(table, 99, TUP_TABLE_OCTETS(2)); /* the other record is a bad one, which must not matter */
+    put_eight(table, counter);
+    put_eight(record + TUP_RECORD_RANK, rank);
+    record[TUP_RECORD_STATE] = (uint8_t)state;
+    record[TUP_RECORD_FLAGS] = (uint8_t)flags;
+}
+
+static void run_step_case(stepper step, const struct step_case *c, const struct ranks *ranks)
+{
+    uint8_t table[TUP_TABLE_OCTETS(2)], after[TUP_TABLE_OCTETS(2)];
     case_now = c->name;
-    memset(table, 99, sizeof table); /* the other record is a bad one, which must not matter */
-    table[TUP_RECORD_AT(c->cic) + TUP_RECORD_STATE] = (uint8_t)c->state;
-    table[TUP_RECORD_AT(c->cic) + TUP_RECORD_FLAGS] = (uint8_t)c->flags;
+    lay_out(table, c->cic, c->state, c->flags, ranks->counter, ranks->rank);
+    lay_out(after, c->cic, c->new_state, c->new_flags, ranks->new_counter, ranks->new_rank);
     uint64_t answer = step(2, 1, table, sizeof table, c->cic, c->kind, c->code, c->detail);
     expect("the refusal", tup_answer_refusal(answer), c->refusal);
     expect("the state", tup_answer_state(answer), c->new_state);
@@ -129,39 +188,88 @@ static void run_step_case(stepper step, const struct step_case *c)
     expect("the rest of the answer", answer >> 48, 0);
     expect("the state stored", tup_record_state(table, c->cic), c->new_state);
     expect("the flags stored", tup_record_flags(table, c->cic), c->new_flags);
-    expect("the other record", tup_record_state(table, 1 - c->cic), 99);
+    expect("the rank stored", tup_record_rank(table, c->cic), ranks->new_rank);
+    expect("the counter", tup_counter(table), ranks->new_counter);
+    for (size_t i = 0; i < sizeof table; i++)
+        expect("an octet of the table", table[i], after[i]);
 }
 
-/* The group, the circuit and who controls (P9). */
-static void run_group_cases(stepper step)
+/* A case that says nothing of ranks: they change where it goes from another state to idle. */
+static void run_plain_case(stepper step, const struct step_case *c)
 {
-    static uint8_t table[TUP_TABLE_OCTETS(TUP_CIRCUITS_MAX) + 2 * TUP_RECORD_OCTETS];
-    static const struct { const char *name; uint32_t own, far; size_t len; uint32_t cic; uint32_t refusal; } groups[] = {
-        {"all is wrong at once", 5, 5, 0, 9, 1},
-        {"65537 is not 1", 65537, 2, TUP_TABLE_OCTETS(2), 0, 1},
-        {"point code 16383", 16383, 1, TUP_TABLE_OCTETS(2), 0, 0},
-        {"own code 16384", 16384, 1, TUP_TABLE_OCTETS(2), 0, 1},
-        {"far code 16384", 1, 16384, TUP_TABLE_OCTETS(2), 0, 1},
-        {"no records", 2, 1, 0, 0, 1},
-        {"a record and a part of one", 2, 1, TUP_TABLE_OCTETS(1) + 1, 0, 1},
-        {"4096 records, the last", 2, 1, TUP_TABLE_OCTETS(4096), 4095, 0},
-        {"4096 records, beyond the last", 2, 1, TUP_TABLE_OCTETS(4096), 4096, 2},
-        {"4097 records", 2, 1, TUP_TABLE_OCTETS(4097), 0, 1},
-        {"one record, CIC 1", 2, 1, TUP_TABLE_OCTETS(1), 1, 2},
-        {"a circuit beyond 16 bits", 2, 1, TUP_TABLE_OCTETS(2), 65536, 2},
-    };
-    for (size_t i = 0; i < sizeof groups / sizeof *groups; i++) {
-        case_now = groups[i].name;
-        memset(table, 0, sizeof table);
-        uint64_t answer = step(groups[i].own, groups[i].far, table, groups[i].len, groups[i].cic, S, 0x46, 0);
-        expect("the answer", answer, groups[i].refusal ? groups[i].refusal : (uint64_t)0x17 << 32);
+    struct ranks ranks = {0x1122334455667788, 7, 0x1122334455667788, 7};
+    if (c->refusal == 0 && c->state != 0 && c->new_state == 0)
+        ranks.new_counter = ranks.new_rank = ranks.counter + 1;
+    run_step_case(step, c, &ranks);
+}
+
+/* Where counter and ranks lie: octets counted out here, and not by the header's names. */
+static void run_layout_case(stepper step)
+{
+    uint8_t table[28] = {0xFF, 0x01, 0, 0, 0, 0, 0, 0x80, 0, 0, 0, 0, 0, 0, 0, 0, 0, 0, 6, 2, 1, 2, 3, 4, 5, 6, 7, 8};
+    static const uint8_t after[28] = {0, 0x02, 0, 0, 0, 0, 0, 0x80, 0, 0, 0, 0, 0, 0, 0, 0, 0, 0, 0, 2, 0, 0x02, 0, 0, 0, 0, 0, 0x80};
+    case_now = "the layout of a table of two";
+    expect("the rank before", tup_record_rank(table, 1), 0x0807060504030201);
+    expect("the counter before", tup_counter(table), 0x80000000000001FF);
+    expect("the refusal", tup_answer_refusal(step(2, 1, table, 28, 1, S, 0x46, 0)), 0);
+    for (size_t i = 0; i < sizeof table; i++)
+        expect("an octet of the table", table[i], after[i]);
+    expect("the rank after", tup_record_rank(table, 1), 0x8000000000000200);
+    expect("the other's rank", tup_record_rank(table, 0), 0);
+}
+
+/* The group and the circuit. The lengths are counted out: eight octets and ten to a circuit. */
+static const struct group_case {
+    const char *name;
+    uint32_t own, far;
+    size_t len;
+    uint32_t cic, refusal;
+} group_cases[] = {
+    {"all is wrong at once", 5, 5, 0, 9, 1},
+    {"65537 is not 1", 65537, 2, 28, 0, 1},
+    {"point code 16383", 16383, 1, 28, 0, 0},
+    {"own code 16384", 16384, 1, 28, 0, 1},
+    {"far code 16384", 1, 16384, 28, 0, 1},
+    {"no octets", 2, 1, 0, 0, 1},
+    {"a part of the counter", 2, 1, 7, 0, 1},
+    {"the counter and no records", 2, 1, 8, 0, 1},
+    {"the counter and a part of a record", 2, 1, 17, 0, 1},
+    {"a record without a counter", 2, 1, 10, 0, 1},
+    {"one record", 2, 1, 18, 0, 0},
+    {"a record and a part of one", 2, 1, 19, 0, 1},
+    {"two records without a counter", 2, 1, 20, 0, 1},
+    {"4096 records but for an octet", 2, 1, 40967, 4095, 1},
+    {"4096 records, the last", 2, 1, 40968, 4095, 0},
+    {"4096 records, beyond the last", 2, 1, 40968, 4096, 2},
+    {"4096 records and an octet", 2, 1, 40969, 0, 1},
+    {"4097 records", 2, 1, 40978, 0, 1},
+    {"one record, CIC 1", 2, 1, 18, 1, 2},
+    {"a circuit beyond 16 bits", 2, 1, 28, 65536, 2},
+};
+
+/* CLF in a group all idle; refused, a table of octets 255 as well, whose counter is full and whose records are bad. */
+static void run_group_case(stepper step, const struct group_case *c)
+{
+    static uint8_t table[TUP_TABLE_OCTETS(TUP_CIRCUITS_MAX + 1)];
+    case_now = c->name;
+    for (int filled = 0; filled <= (c->refusal ? 255 : 0); filled += 255) {
+        memset(table, filled, sizeof table);
+        uint64_t answer = step(c->own, c->far, table, c->len, c->cic, S, 0x46, 0);
+        expect("the answer", answer, c->refusal ? c->refusal : (uint64_t)0x17 << 32);
+        for (size_t i = 0; i < sizeof table; i++)
+            expect("an octet of the table", table[i], (uint64_t)filled);
     }
+}
+
+static void run_roles(stepper step)
+{
+    uint8_t table[TUP_TABLE_OCTETS(2)];
     case_now = "P9 codes 2 and 1: the first controls circuit 0, not 1";
     for (uint32_t end = 0; end < 2; end++)
         for (uint32_t cic = 0; cic < 2; cic++) {
             memset(table, 0, sizeof table);
             table[TUP_RECORD_AT(cic) + TUP_RECORD_STATE] = 1;
-            uint64_t answer = step(2 - end, 1 + end, table, TUP_TABLE_OCTETS(2), cic, S, 0x11, 0);
+            uint64_t answer = step(2 - end, 1 + end, table, sizeof table, cic, S, 0x11, 0);
             expect("the state after a crossing IAM", tup_answer_state(answer), end == cic ? 1 : 6);
         }
 }
@@ -276,8 +384,13 @@ static void run_write_case(writer write, const struct write_case *c)
 static void run_all(stepper step, reader read, writer write)
 {
     for (size_t i = 0; i < sizeof step_cases / sizeof *step_cases; i++)
-        run_step_case(step, step_cases + i);
-    run_group_cases(step);
+        run_plain_case(step, step_cases + i);
+    for (size_t i = 0; i < sizeof rank_cases / sizeof *rank_cases; i++)
+        run_step_case(step, &rank_cases[i].step, &rank_cases[i].ranks);
+    run_layout_case(step);
+    for (size_t i = 0; i < sizeof group_cases / sizeof *group_cases; i++)
+        run_group_case(step, group_cases + i);
+    run_roles(step);
     for (size_t i = 0; i < sizeof read_cases / sizeof *read_cases; i++)
         run_read_case(read, read_cases + i);
     for (size_t i = 0; i < sizeof write_cases / sizeof *write_cases; i++)
@@ -290,7 +403,8 @@ int main(void)
     run_all(ref_step, ref_read, ref_write);
     harness_begin("cases", describe);
     run_all(tup_step, tup_read, tup_write);
-    covered("%zu events, %zu messages read and %zu written, and the groups", sizeof step_cases / sizeof *step_cases,
+    covered("%zu events, %zu with ranks, %zu groups, %zu messages read and %zu written", sizeof step_cases / sizeof *step_cases,
+            sizeof rank_cases / sizeof *rank_cases, sizeof group_cases / sizeof *group_cases,
             sizeof read_cases / sizeof *read_cases, sizeof write_cases / sizeof *write_cases);
     return 0;
 }

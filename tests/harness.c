@@ -123,6 +123,12 @@ void pattern(uint8_t *at, size_t len)
         at[i] = (uint8_t)(0xA5 ^ i * 7);
 }
 
+void put_eight(uint8_t *at, uint64_t number)
+{
+    for (int i = 0; i < 8; i++)
+        at[i] = (uint8_t)(number >> 8 * i);
+}
+
 uint32_t widened(uint32_t number, unsigned which)
 {
     static const uint32_t above[WIDE] = {0, 0x100, 0x10000, 0x1000000, 0x80000000u, 0xFFFF0000u};

@@ -36,6 +36,9 @@ size_t room_at(enum place place, size_t len);
 /* Fills memory with octets that depend on the place only, so that two stretches filled alike stay equal unless written. */
 void pattern(uint8_t *at, size_t len);
 
+/* A number in eight octets, lowest first, as a table holds its counter and its ranks. */
+void put_eight(uint8_t *at, uint64_t number);
+
 /* Memory of a length beyond 32 bits, of which no octet is touched yet */
 #define VAST ((size_t)1 << 32)
 uint8_t *vast_make(void);

@@ -1,4 +1,5 @@
-/* The rules of document 01 in the order of its sections: events on a record, messages on the link, the replay of a trace. */
+/* The rules of document 01 in the order of its sections: events on a record, messages on the link, the replay of a trace. What
+   document 02's T-01 adds on release ranks stands behind the events. */
 #include "reference.h"
 
 #include <string.h>
@@ -17,6 +18,9 @@ enum { SEC = 0x15, CGC = 0x25, NNC = 0x35, ADI = 0x45, CFL = 0x55, SSB = 0x65, U
 
 /* The packed answer of a step, from its lowest octet: refusal, indication, state, flags, first and second heading. */
 typedef uint64_t answer;
+
+/* Above those six octets, and never given out: the row takes the circuit from another state to idle. */
+#define FREES ((answer)1 << 48)
 
 static answer goes(unsigned state, unsigned flags, unsigned indication, unsigned first, unsigned second)
 {
@@ -90,9 +94,9 @@ static answer on_clf(unsigned state, unsigned flags, int controls)
     if (state == IDLE)
         return goes(IDLE, flags, 0, RLG, 0);
     if (state == SEIZED && !controls)
-        return goes(IDLE, flags, 6, RLG, 0);
+        return FREES | goes(IDLE, flags, 6, RLG, 0);
     if (state >= IN_SEIZED || (state == AWAITING_GUARD && !controls))
-        return goes(IDLE, flags, 5, RLG, 0);
+        return FREES | goes(IDLE, flags, 5, RLG, 0);
     return discarded(state, flags);
 }
 
@@ -119,7 +123,7 @@ static answer on_rsc(unsigned state, unsigned flags)
     case AWAITING_RESET:
         return reset_goes(AWAITING_RESET, flags, 0, RLG);
     default:
-        return reset_goes(IDLE, flags, 5, RLG);
+        return FREES | reset_goes(IDLE, flags, 5, RLG);
     }
 }
 
@@ -133,6 +137,13 @@ static answer on_blo(unsigned state, unsigned flags)
 static answer on_acknowledgement(unsigned state, unsigned flags, unsigned awaited)
 {
     return flags & awaited ? goes(state, flags & ~awaited, 0, 0, 0) : discarded(state, flags);
+}
+
+static answer on_rlg(unsigned state, unsigned flags)
+{
+    if (state == AWAITING_GUARD || state == AWAITING_RESET)
+        return FREES | goes(IDLE, flags, 5, 0, 0);
+    return discarded(state, flags);
 }
 
 static answer on_signal(uint32_t heading, uint32_t detail, unsigned state, unsigned flags, int controls)
@@ -153,7 +164,7 @@ static answer on_signal(uint32_t heading, uint32_t detail, unsigned state, unsig
     case CLF:
         return on_clf(state, flags, controls);
     case RLG:
-        return state == AWAITING_GUARD || state == AWAITING_RESET ? goes(IDLE, flags, 5, 0, 0) : discarded(state, flags);
+        return on_rlg(state, flags);
     case RSC:
         return on_rsc(state, flags);
     case BLO:
@@ -312,20 +323,62 @@ static answer on_event(uint32_t kind, uint32_t code, uint32_t detail, unsigned s
     }
 }
 
+/* Release ranks. */
+
+static uint32_t two(const uint8_t *octets)
+{
+    return (uint32_t)octets[0] | (uint32_t)octets[1] << 8;
+}
+
+static uint64_t eight(const uint8_t *octets)
+{
+    uint64_t low = two(octets) | two(octets + 2) << 16, high = two(octets + 4) | two(octets + 6) << 16;
+    return low | high << 32;
+}
+
+static void put_eight(uint8_t *octets, uint64_t number)
+{
+    octets[0] = (uint8_t)number, octets[1] = (uint8_t)(number >> 8);
+    octets[2] = (uint8_t)(number >> 16), octets[3] = (uint8_t)(number >> 24);
+    octets[4] = (uint8_t)(number >> 32), octets[5] = (uint8_t)(number >> 40);
+    octets[6] = (uint8_t)(number >> 48), octets[7] = (uint8_t)(number >> 56);
+}
+
+/* The next number into the counter and into the record; 0 where there is none. */
+static int give_rank(uint8_t *counter, uint8_t *record)
+{
+    uint64_t next = eight(counter) + 1;
+    if (next == 0)
+        return 0;
+    put_eight(counter, next);
+    put_eight(record + 2, next);
+    return 1;
+}
+
+/* How many circuits a table of this length has: 0 for a length of no table. */
+static size_t circuits_of(size_t table_len)
+{
+    if (table_len < REF_COUNTER_OCTETS || (table_len - REF_COUNTER_OCTETS) % REF_RECORD_OCTETS != 0)
+        return 0;
+    return (table_len - REF_COUNTER_OCTETS) / REF_RECORD_OCTETS;
+}
+
 uint64_t ref_step(uint32_t own, uint32_t far, uint8_t *table, size_t table_len, uint32_t cic, uint32_t kind, uint32_t code,
                   uint32_t detail)
 {
-    size_t count = table_len / REF_RECORD_OCTETS;
-    if (!group_good(own, far, count) || table_len % REF_RECORD_OCTETS != 0)
+    size_t count = circuits_of(table_len);
+    if (!group_good(own, far, count))
         return 1;
     if (cic >= count)
         return 2;
-    uint8_t *record = table + (size_t)cic * REF_RECORD_OCTETS;
+    uint8_t *record = table + REF_COUNTER_OCTETS + (size_t)cic * REF_RECORD_OCTETS;
     int controls = (own > far) == (cic % 2 == 0);
     answer given = on_event(kind, code, detail, record[0], record[1], controls);
+    if ((given & FREES) && !give_rank(table, record))
+        return refused(13, record[0], record[1]);
     record[0] = (uint8_t)(given >> 16);
     record[1] = (uint8_t)(given >> 24);
-    return given;
+    return given & ~FREES;
 }
 
 /* Messages on the link. */
@@ -482,11 +535,6 @@ uint32_t ref_write(uint32_t own, uint32_t far, uint32_t count, uint32_t cic, uin
 
 enum { GROUP_OCTETS = 7 };
 
-static uint32_t two(const uint8_t *octets)
-{
-    return (uint32_t)octets[0] | (uint32_t)octets[1] << 8;
-}
-
 /* Octets of a record of this kind, its kind included; 0 where no event has it. */
 static size_t event_octets(unsigned kind)
 {
@@ -542,9 +590,9 @@ static void put_line(uint64_t ordinal, uint32_t cic, answer given, FILE *out)
 
 static void replay_events(uint32_t own, uint32_t far, uint32_t count, const uint8_t *events, size_t len, FILE *out)
 {
-    uint8_t table[CIRCUITS * REF_RECORD_OCTETS] = {0};
+    uint8_t table[REF_COUNTER_OCTETS + CIRCUITS * REF_RECORD_OCTETS] = {0};
+    size_t table_len = REF_COUNTER_OCTETS + (size_t)count * REF_RECORD_OCTETS, size;
     uint64_t ordinal = 1;
-    size_t size;
     for (; len > 0; ordinal++, events += size, len -= size) {
         size = event_octets(events[0]);
         if (size == 0 || len < size) {
@@ -552,7 +600,7 @@ static void replay_events(uint32_t own, uint32_t far, uint32_t count, const uint
             return;
         }
         uint32_t cic = two(events + 1), detail = events[0] == 3 ? 0 : events[4];
-        answer given = ref_step(own, far, table, (size_t)count * REF_RECORD_OCTETS, cic, events[0], events[3], detail);
+        answer given = ref_step(own, far, table, table_len, cic, events[0], events[3], detail);
         put_line(ordinal, cic, given, out);
     }
     fprintf(out, "end %llu\n", (unsigned long long)(ordinal - 1));

@@ -1,4 +1,5 @@
-/* A second reading of document 01, in plain C, that the tests hold the proved archive against and the benchmark measures it by.
+/* A second reading of document 01, and of document 02's T-01 on release ranks, in plain C, that the tests hold the proved archive
+   against and the benchmark measures it by.
    It takes the same arguments as the functions of tup.h and gives the same packed answers, but shares no line with them. */
 #ifndef REFERENCE_H
 #define REFERENCE_H
@@ -7,7 +8,9 @@
 #include <stdint.h>
 #include <stdio.h>
 
-#define REF_RECORD_OCTETS 2
+/* A table: the counter of releases, then for each circuit its state, its flags and its release rank. */
+#define REF_COUNTER_OCTETS 8
+#define REF_RECORD_OCTETS 10
 #define REF_MESSAGE_OCTETS 23
 
 uint64_t ref_step(uint32_t own, uint32_t far, uint8_t *table, size_t table_len, uint32_t cic, uint32_t kind, uint32_t code,
