@@ -1,6 +1,7 @@
 /* Two ends over octets: both exchanges of a few circuits run by tup_step, every signal written by tup_write, carried as octets in
    two queues a circuit, and read by tup_read; hosts that do anything at any time, restarts that empty both queues, and timers.
-   At every quiet moment the two records must agree, as demand 3 asks. */
+   At every quiet moment the two records must agree, as demand 3 asks, in states and flags. Ranks and counters have no part in it:
+   now and then a host sets those of its table to any numbers that leave the counter room, so that no event is refused 13. */
 #include "harness.h"
 #include "tup.h"
 
@@ -26,7 +27,7 @@ static const uint32_t codes[2] = {2, 1};
 
 static struct { unsigned end; uint32_t circuit, kind, code, detail; } now;
 static struct {
-    unsigned long quiet, apart[STATES][STATES], marks[2][2], indications[11], headings[256], events, refused, lost, longest;
+    unsigned long quiet, apart[STATES][STATES], marks[2][2], indications[11], headings[256], events, refused, lost, longest, set_anew;
 } seen;
 
 static void describe(void)
@@ -133,6 +134,15 @@ static int same_stage(uint32_t outgoing, uint32_t incoming)
            (outgoing == 3 && incoming == 9) || (outgoing == 4 && incoming == 10);
 }
 
+/* Any ranks, also above the counter, and a counter that this run does not fill. */
+static void set_ranks(uint8_t *of_end)
+{
+    put_eight(of_end, draw64() >> 1);
+    for (uint32_t circuit = 0; circuit < CIRCUITS; circuit++)
+        put_eight(of_end + TUP_RECORD_AT(circuit) + TUP_RECORD_RANK, draw64());
+    seen.set_anew++;
+}
+
 /* Demand 3, where nothing is on its way and neither end awaits release-guard or reset. */
 static void agree(uint32_t circuit)
 {
@@ -179,6 +189,8 @@ static void one_event(void)
         give_command(end, circuit);
     if (silent(circuit))
         agree(circuit);
+    if (chance(5000))
+        set_ranks(table[draw(2)]);
 }
 
 static void expect_seen(unsigned long count, const char *what, unsigned number)
@@ -207,6 +219,7 @@ static void expect_all_seen(void)
     for (unsigned i = 0; i < HEADINGS; i++)
         expect_seen(seen.headings[headings[i]], "sent, heading", headings[i]);
     expect_seen(seen.lost, "signals lost by a restart", 0);
+    expect_seen(seen.set_anew, "ranks set by a host", 0);
     covered("dual seizures yielded: %lu, signals lost by restarts: %lu, longest queue: %lu",
             seen.indications[TUP_IND_INCOMING_CALL_TRY_OWN_ELSEWHERE], seen.lost, seen.longest);
 }
@@ -217,7 +230,8 @@ int main(void)
     harness_begin("ends", describe);
     while (seen.events < events)
         one_event();
-    covered("%lu events, %lu of them refused, %lu quiet moments, all agreed", seen.events, seen.refused, seen.quiet);
+    covered("%lu events, %lu of them refused, %lu quiet moments, all agreed; ranks set by a host %lu times", seen.events,
+            seen.refused, seen.quiet, seen.set_anew);
     expect_all_seen();
     return 0;
 }

@@ -13,6 +13,17 @@
 const uint8_t headings[HEADINGS] = {0x11, 0x14, 0x16, 0x26, 0x36, 0x46, 0x56, 0x17, 0x27, 0x37, 0x47,
                                     0x57, 0x77, 0x15, 0x25, 0x35, 0x45, 0x55, 0x65, 0x75, 0x85, 0x95};
 
+const struct particulars listed[LISTED] = {
+    {1, 0x11, 0},    {1, 0x14, 0},    {1, 0x16, 0},    {1, 0x26, 0},    {1, 0x36, 0},    {1, 0x46, 0},    {1, 0x56, 0},
+    {1, 0x17, 0},    {1, 0x27, 0},    {1, 0x37, 0},    {1, 0x47, 0},    {1, 0x57, 0},    {1, 0x77, 0},    {1, 0x15, 0},
+    {1, 0x25, 0},    {1, 0x35, 0},    {1, 0x45, 0},    {1, 0x55, 0},    {1, 0x65, 0},    {1, 0x75, 0},    {1, 0x85, 0},
+    {1, 0x95, 0},    {2, 1, 0},       {2, 2, 0},       {2, 3, 0},       {2, 3, 1},       {2, 3, 2},       {2, 3, 3},
+    {2, 3, 4},       {2, 3, 5},       {2, 3, 6},       {2, 3, 7},       {2, 4, 0},       {2, 4, 1},       {2, 5, 0},
+    {2, 6, 0},       {2, 7, 0x15},    {2, 7, 0x25},    {2, 7, 0x35},    {2, 7, 0x45},    {2, 7, 0x55},    {2, 7, 0x65},
+    {2, 7, 0x75},    {2, 7, 0x85},    {2, 7, 0x95},    {2, 8, 0},       {2, 9, 0},       {2, 10, 0},      {3, 1, 0},
+    {3, 2, 0},       {3, 3, 0},       {3, 4, 0},       {3, 5, 0},       {3, 6, 0},
+};
+
 static const char *program = "test";
 static void (*describe_call)(void);
 static uint64_t seed = 20240229;
@@ -121,6 +132,16 @@ void pattern(uint8_t *at, size_t len)
 {
     for (size_t i = 0; i < len; i++)
         at[i] = (uint8_t)(0xA5 ^ i * 7);
+}
+
+int detail_telling(unsigned detail)
+{
+    if (detail < 16 || detail == 64 || detail == 128 || detail == 255)
+        return 1;
+    for (int i = 0; i < HEADINGS; i++)
+        if (headings[i] == detail)
+            return 1;
+    return 0;
 }
 
 void put_eight(uint8_t *at, uint64_t number)

@@ -10,6 +10,15 @@
 enum { HEADINGS = 22, FAILURES_FROM = 13 };
 extern const uint8_t headings[HEADINGS];
 
+/* The events of document 01 by kind, code and detail; an ACM's octet, which changes nothing, is 0. */
+enum { LISTED = 54 };
+extern const struct particulars {
+    uint8_t kind, code, detail;
+} listed[LISTED];
+
+/* Whether some rule tells this detail from others, or it is a neighbour of one that is told apart. */
+int detail_telling(unsigned detail);
+
 /* Names the program and the function that prints the call under way; failing prints it, touching unlent memory too. */
 void harness_begin(const char *name, void (*describe)(void));
 /* Prints what differed and the call under way, and ends the program. */

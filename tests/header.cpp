@@ -9,5 +9,9 @@ int main()
     const uint8_t address[] = {1, 2, 3};
     uint32_t written = tup_write(2, 1, 2, 1, tup_answer_first(answer), 0, 10, 2, address, sizeof address, octets, sizeof octets);
     uint32_t refusal = tup_read(1, 2, 2, octets, tup_written_length(written), fields, sizeof fields);
+    tup_step(2, 1, table, sizeof table, 0, TUP_SIGNAL, TUP_IAM, 0);
+    tup_step(2, 1, table, sizeof table, 0, TUP_SIGNAL, TUP_CLF, 0);
+    if (tup_counter(table) != 1 || tup_record_rank(table, 0) != 1 || tup_record_rank(table, 1) != 0)
+        return 1;
     return tup_record_state(table, 1) == TUP_OUT_SEIZED && refusal == TUP_ACCEPTED && fields[TUP_MESSAGE_COUNT] == 3 ? 0 : 1;
 }

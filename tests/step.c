@@ -1,5 +1,6 @@
-/* tup_step against the reference: every record, role, kind, code and detail of an octet; numbers too large for an octet or two;
-   bad groups and lengths of tables; every circuit's role. The answer is compared, and every octet of the table and around it. */
+/* tup_step against the reference: every record, role, kind, code and detail of an octet; every listed event with counters and ranks
+   of all sizes; numbers too large for an octet or two; bad groups and lengths of tables; every circuit's role. The answer is
+   compared, and every octet of the table, its counter and its ranks among them, and around it. */
 #include "harness.h"
 #include "reference.h"
 #include "tup.h"
@@ -8,16 +9,21 @@
 #include <stdlib.h>
 #include <string.h>
 
-enum { MARGIN = 32 }; /* octets compared where the table is a short one at an end of the room */
+enum { MARGIN = 64 }; /* octets compared where the table is one of up to five circuits at an end of the room */
+
+/* Counters and ranks at the edges of an octet, of 32 bits and of 64. A host may lend any rank beside any counter. */
+static const uint64_t edges[] = {0, 1, 255, 256, 0xFFFFFFFF, 0x0102030405060708, UINT64_MAX - 1, UINT64_MAX};
+enum { EDGES = sizeof edges / sizeof *edges };
 
 static struct call {
     uint32_t own, far, cic, kind, code, detail;
     size_t len;
     unsigned state, flags;
+    uint64_t counter, rank;
 } now;
 
 static struct room room;
-static uint8_t model[ROOM];
+static uint8_t model[ROOM], blank[ROOM];
 static uint8_t *lent, *twin; /* the table lent to the archive, and the reference's own at the same offset */
 static unsigned long long calls;
 
@@ -25,15 +31,27 @@ static void describe(void)
 {
     printf("  own %u far %u table of %zu octets, circuit %u with state %u flags %u; kind %u code %u detail %u\n", now.own, now.far,
            now.len, now.cic, now.state, now.flags, now.kind, now.code, now.detail);
+    printf("  counter and rank last set: %016llx %016llx\n", (unsigned long long)now.counter, (unsigned long long)now.rank);
 }
 
 static void place_table(enum place place, size_t len)
 {
-    pattern(room.open, ROOM);
-    pattern(model, ROOM);
+    memcpy(room.open, blank, ROOM);
+    memcpy(model, blank, ROOM);
     now.len = len;
     lent = room.open + room_at(place, len);
     twin = model + room_at(place, len);
+}
+
+static void set_ranks(uint32_t cic, uint64_t counter, uint64_t rank)
+{
+    uint8_t *tables[2] = {lent, twin};
+    for (int i = 0; i < 2; i++) {
+        put_eight(tables[i], counter);
+        put_eight(tables[i] + TUP_RECORD_AT(cic) + TUP_RECORD_RANK, rank);
+    }
+    now.counter = counter;
+    now.rank = rank;
 }
 
 static void set_record(uint32_t cic, unsigned state, unsigned flags)
@@ -79,34 +97,30 @@ static void compare_answer(void)
         differ("the answer is %012llx and should be %012llx", (unsigned long long)got, (unsigned long long)want);
 }
 
-/* The details that some rule tells apart, with neighbours of each. */
-static int detail_telling(unsigned detail)
-{
-    if (detail < 16 || detail == 64 || detail == 128 || detail == 255)
-        return 1;
-    for (int i = 0; i < HEADINGS; i++)
-        if (headings[i] == detail)
-            return 1;
-    return 0;
-}
-
 static int looks_at_detail(uint32_t kind, uint32_t code)
 {
     return (kind == TUP_SIGNAL && code == TUP_ACM) ||
            (kind == TUP_COMMAND && (code == TUP_ADDRESS_COMPLETE || code == TUP_ANSWER || code == TUP_FAIL));
 }
 
+/* The stretch at the room's end, as it is before a call and is to be again behind it. */
+static uint8_t before[MARGIN];
+
+static void compare_and_put_back(void)
+{
+    compare_answer();
+    compare_memory(ROOM - MARGIN, ROOM);
+    memcpy(room.open + ROOM - MARGIN, before, MARGIN);
+    memcpy(model + ROOM - MARGIN, before, MARGIN);
+}
+
 static void every_detail(const unsigned char *wanted)
 {
     int all = looks_at_detail(now.kind, now.code);
-    unsigned state = now.state, flags = now.flags;
-    for (now.detail = 0; now.detail < 256; now.detail++) {
-        if (!all && !wanted[now.detail])
-            continue;
-        compare_answer();
-        compare_memory(ROOM - MARGIN, ROOM);
-        set_record(now.cic, state, flags);
-    }
+    memcpy(before, model + ROOM - MARGIN, MARGIN);
+    for (now.detail = 0; now.detail < 256; now.detail++)
+        if (all || wanted[now.detail])
+            compare_and_put_back();
 }
 
 /* Every record on one circuit of a table of five, whose other records are bad ones that must not matter. */
@@ -118,32 +132,67 @@ static void every_event(uint32_t own, uint32_t far, uint32_t cic, const unsigned
         for (now.kind = 0; now.kind < 6; now.kind++)
             for (now.code = 0; now.code < 256; now.code++) {
                 set_record(cic, record / 32, record % 32);
+                set_ranks(cic, edges[(record + now.code) % EDGES], edges[(record + now.code / EDGES) % EDGES]);
                 every_detail(wanted);
             }
 }
 
-/* Records with octets of any value: only the legal ones may be taken. */
-static void every_record(void)
+/* Every listed event, and each with a detail one higher, on every record of the circuit as its counter and rank now stand. */
+static void every_listed(uint32_t cic)
 {
-    place_table(AT_START, TUP_TABLE_OCTETS(3));
-    now.own = 1, now.far = 2, now.cic = 1, now.kind = TUP_COMMAND, now.code = TUP_RESTART, now.detail = 0;
-    for (unsigned record = 0; record < 65536; record++) {
-        set_record(1, record / 256, record % 256);
-        compare_answer();
-        compare_memory(0, MARGIN);
+    for (unsigned record = 0; record < 16 * 32; record++) {
+        set_record(cic, record / 32, record % 32);
+        memcpy(before, model + ROOM - MARGIN, MARGIN);
+        for (unsigned i = 0; i < 2 * LISTED; i++) {
+            const struct particulars *event = listed + i / 2;
+            now.kind = event->kind, now.code = event->code, now.detail = event->detail + i % 2;
+            compare_and_put_back();
+        }
     }
 }
 
-/* Who controls: an IAM on a seized circuit, for every circuit, from both ends; and the two circuits beyond the last. */
+static void every_rank(uint32_t own, uint32_t far, uint32_t cic)
+{
+    place_table(AT_END, TUP_TABLE_OCTETS(5));
+    now.own = own, now.far = far, now.cic = cic;
+    for (unsigned i = 0; i < EDGES * EDGES; i++) {
+        set_ranks(cic, edges[i / EDGES], edges[i % EDGES]);
+        every_listed(cic);
+    }
+}
+
+/* Records with octets of any value: only the legal ones may be taken, whether the event would free a circuit or not, and whether
+   the counter is full or not. */
+static void every_record(void)
+{
+    static const struct particulars events[] = {{TUP_COMMAND, TUP_RESTART, 0}, {TUP_SIGNAL, TUP_CLF, 0}};
+    place_table(AT_START, TUP_TABLE_OCTETS(3));
+    now.own = 1, now.far = 2, now.cic = 1, now.detail = 0;
+    for (unsigned i = 0; i < 4; i++)
+        for (unsigned record = 0; record < 65536; record++) {
+            now.kind = events[i % 2].kind, now.code = events[i % 2].code;
+            set_record(1, record / 256, record % 256);
+            set_ranks(1, i / 2 ? UINT64_MAX : 255, record);
+            compare_answer();
+            compare_memory(0, MARGIN);
+        }
+}
+
+/* Who controls: an IAM on a seized circuit and then a CLF, for every circuit, from both ends; and the two circuits beyond the
+   last. The CLF frees the circuits that have given way, with a carry in the counter on the way. */
 static void every_circuit(void)
 {
     static const uint32_t pairs[][2] = {{2, 1}, {1, 2}, {16383, 0}, {0, 16383}, {8192, 8191}, {255, 256}};
     for (unsigned i = 0; i < sizeof pairs / sizeof *pairs; i++) {
         place_table(i % 2 ? AT_START : AT_END, TUP_TABLE_OCTETS(TUP_CIRCUITS_MAX));
-        now.own = pairs[i][0], now.far = pairs[i][1], now.kind = TUP_SIGNAL, now.code = TUP_IAM, now.detail = 0;
+        set_ranks(0, 0xFFFFFF00, 0);
+        now.own = pairs[i][0], now.far = pairs[i][1], now.kind = TUP_SIGNAL, now.detail = 0;
         for (now.cic = 0; now.cic < TUP_CIRCUITS_MAX + 2; now.cic++) {
             if (now.cic < TUP_CIRCUITS_MAX)
                 set_record(now.cic, TUP_OUT_SEIZED, 0);
+            now.code = TUP_IAM;
+            compare_answer();
+            now.code = TUP_CLF;
             compare_answer();
         }
         compare_memory(0, ROOM);
@@ -154,8 +203,8 @@ static void every_circuit(void)
 static void every_length(void)
 {
     now.own = 2, now.far = 1, now.kind = TUP_SIGNAL, now.code = TUP_CLF, now.detail = 0;
-    for (size_t len = 0; len <= TUP_TABLE_OCTETS(TUP_CIRCUITS_MAX) + 4; len++) {
-        uint32_t records = (uint32_t)(len / TUP_RECORD_OCTETS);
+    for (size_t len = 0; len <= TUP_TABLE_OCTETS(TUP_CIRCUITS_MAX + 2); len++) {
+        uint32_t records = len < TUP_COUNTER_OCTETS ? 0 : (uint32_t)((len - TUP_COUNTER_OCTETS) / TUP_RECORD_OCTETS);
         place_table(len % 4 < 2 ? AT_END : AT_START, len);
         uint32_t asked[] = {0, records ? records - 1 : 0, records, records + 1, UINT32_MAX};
         for (unsigned i = 0; i < sizeof asked / sizeof *asked; i++) {
@@ -228,11 +277,16 @@ int main(int argc, char **argv)
     int all = argc > 1 && strcmp(argv[1], "all") == 0;
     harness_begin("step", describe);
     room = room_make();
+    pattern(blank, ROOM);
     for (unsigned detail = 0; detail < 256; detail++)
         wanted[detail] = (unsigned char)(all || detail_telling(detail));
     every_event(2, 1, 2, wanted);
     every_event(2, 1, 3, wanted);
     covered("%llu events on one circuit in both roles, %s details", calls, all ? "all" : "the telling");
+    unsigned long long so_far = calls;
+    every_rank(2, 1, 2);
+    every_rank(2, 1, 3);
+    covered("%llu events with %u counters and %u ranks", calls - so_far, EDGES, EDGES);
     every_record();
     every_circuit();
     every_length();

@@ -10,7 +10,7 @@
 
 static const char *directory;
 static unsigned written;
-static unsigned long refusals[13], states[13];
+static unsigned long refusals[14], states[13];
 
 static FILE *create(const char *ending)
 {
