@@ -1,7 +1,7 @@
 /* The archive against the reference, in one run: nanoseconds an event in groups of 1 and of 4096 circuits (the same events on the
-   first circuit of either, then calls on all circuits at once), a message read and a message written. Both work on the same
-   inputs, drawn beforehand from a fixed seed; each figure is the best of several rounds, taken in turns after a warm-up, so that
-   neither side has the quieter moments. */
+   first circuit of either, then calls on all circuits at once, then calls that are set up and at once released, so that every
+   second event frees a circuit), a message read and a message written. Both work on the same inputs, drawn beforehand from a fixed
+   seed; each figure is the best of several rounds, taken in turns after a warm-up, so that neither side has the quieter moments. */
 #define _POSIX_C_SOURCE 199309L
 #include "harness.h"
 #include "reference.h"
@@ -28,7 +28,7 @@ static struct message {
     size_t address_len, len;
 } messages[ITEMS];
 
-/* Sums of all answers, printed in the end, so that no call can be left out. */
+/* Sums of all answers, and of counters and ranks, printed in the end, so that no call can be left out. */
 static uint64_t sums[2];
 
 static double now(void)
@@ -67,6 +67,16 @@ static void draw_events(uint32_t circuits)
     }
 }
 
+/* An IAM and then the CLF, which frees the circuit. */
+static void draw_releases(uint32_t circuits)
+{
+    for (size_t i = 0; i < ITEMS; i += 2) {
+        uint32_t cic = draw(circuits);
+        events[i] = (struct event){cic, 1, 0x11, 0};
+        events[i + 1] = (struct event){cic, 1, 0x46, 0};
+    }
+}
+
 static void draw_messages(void)
 {
     for (size_t i = 0; i < ITEMS; i++) {
@@ -92,7 +102,7 @@ static uint64_t run_steps(int archive, size_t table_len)
     memset(table, 0, sizeof table);
     for (size_t i = 0; i < ITEMS; i++)
         sum += step(2, 1, table, table_len, events[i].cic, events[i].kind, events[i].code, events[i].detail);
-    return sum;
+    return sum + tup_counter(table) + tup_record_rank(table, 0);
 }
 
 static uint64_t run_reads(int archive, size_t unused)
@@ -141,9 +151,13 @@ int main(void)
     measure("event, group of 4096, one busy", run_steps, TUP_TABLE_OCTETS(TUP_CIRCUITS_MAX));
     draw_events(TUP_CIRCUITS_MAX);
     measure("event, group of 4096, all busy", run_steps, TUP_TABLE_OCTETS(TUP_CIRCUITS_MAX));
+    draw_releases(1);
+    measure("set up, released, group of 1", run_steps, TUP_TABLE_OCTETS(1));
+    draw_releases(TUP_CIRCUITS_MAX);
+    measure("set up, released, group of 4096", run_steps, TUP_TABLE_OCTETS(TUP_CIRCUITS_MAX));
     draw_messages();
     measure("message read", run_reads, 0);
     measure("message written", run_writes, 0);
-    printf("sums of all answers: %016llx %016llx\n", (unsigned long long)sums[1], (unsigned long long)sums[0]);
+    printf("sums of all that was answered: %016llx %016llx\n", (unsigned long long)sums[1], (unsigned long long)sums[0]);
     return sums[0] == sums[1] ? 0 : 1;
 }
