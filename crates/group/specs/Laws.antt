@@ -1,13 +1,14 @@
 -- What holds of every event on every circuit of every table, for any circuit number.
 -- Assumes nothing.
-use mathlib.Core.Path.{_≡_, refl, sym, ap, _∙_}
-use mathlib.Core.Bool.{Bool, true, false, cond}
+use mathlib.Core.Path.{_≡_, refl, sym, ap, _∙_, subst}
+use mathlib.Core.Bool.{Bool, true, false, cond, _&&_}
 use mathlib.Core.List.{List}
 use Prim.Native.Nat.{ℕ, _<_, _≤_}
 use native.Mathlib.Omega.{arith}
 use lib.Dec.{eqb, leb, ltb}
 use lib.ListN.{length}
 use borrow.Author.Tests.{eqb-true, eqb-false, leb-false, ltb-false}
+use Rattle.circuit.specs.declared.Record.{Record}
 use Rattle.circuit.specs.declared.Outcome.{Outcome}
 use Rattle.circuit.specs.declared.Sends.the-variants.{Nothing}
 use Rattle.circuit.specs.Groups.{badGroup, controls}
@@ -15,10 +16,13 @@ use Rattle.circuit.specs.Rows as Rows
 use Rattle.codes.specs.declared.Found.{Found}
 use Rattle.step.specs.Step.{stepFound}
 use Rattle.step.specs.Refusals.{refusalFound}
-use Rattle.step.specs.Refused.{keepsFound, refusesFound}
+use Rattle.step.specs.Refused.{keepsFound, refusesFound, acceptedValid}
+use Rattle.step.specs.Frees.{freed, freesFound}
+use Rattle.step.specs.Always.{freesListedFound}
+use Rattle.words.specs.Words.{largest}
 use Rattle.group.specs.declared.Answer.{Answer}
-use Rattle.group.specs.Layout.{recordsIn, stateAt, flagsAt, recordOf, recordAt, put, recordBack, putLength, putRecord, otherState, otherFlags}
-use Rattle.group.specs.Table.{Step, refusal, nowhere, refusedAt, taken, landed, onCircuit, stepIn}
+use Rattle.group.specs.Layout.{recordsIn, counterIn, stateAt, flagsAt, rankAt, recordOf, recordAt, put, recordBack, putLength, putRecord, putRank, otherState, otherFlags, otherRank, rankedLength, rankedState, rankedFlags, rankedRecord}
+use Rattle.group.specs.Table.{Step, refusal, nowhere, refusedAt, stored, released, freeing, accepted, landed, onCircuit, stepIn}
 use Rattle.group.specs.Cases.{stepped, inGroup}
 use Rattle.group.specs.Refusals.{refusalIn}
 
@@ -27,8 +31,8 @@ abbrev pub outcomeAt : (own far : ℕ) → List ℕ → (cic : ℕ) → Found �
 outcomeAt own far table cic event = stepFound (controls own far cic) (recordAt table cic) event
 
 -- the step of an accepted event
-abbrev pub accepted : List ℕ → (cic : ℕ) → Outcome → Step
-accepted table cic o = record { answer = taken o; table = put table cic (o .after) }
+abbrev pub taking : List ℕ → (cic : ℕ) → Outcome → Step
+taking table cic o = cond (freed (stateAt table cic) o) (released table cic o) (stored table cic o)
 
 -- a refusal leaves the whole table, sends nothing and indicates 0
 pub record Untouched (before : List ℕ) (s : Step) : Type 0 where
@@ -40,6 +44,7 @@ pub record Untouched (before : List ℕ) (s : Step) : Type 0 where
 pub record Same (before after : List ℕ) (i : ℕ) : Type 0 where
   pub state : stateAt after i ≡ stateAt before i
   pub flags : flagsAt after i ≡ flagsAt before i
+  pub rank : rankAt after i ≡ rankAt before i
 
 -- the answer is what one circuit's step says, and so is the circuit's record then, in the answer and in the table
 pub record Carries (cic : ℕ) (o : Outcome) (s : Step) : Type 0 where
@@ -50,21 +55,32 @@ pub record Carries (cic : ℕ) (o : Outcome) (s : Step) : Type 0 where
   pub ind : s .answer .ind ≡ o .ind
 
 module _ (own far : ℕ) (table : List ℕ) (cic : ℕ) (event : Found) where
-  -- whatever holds of each way to be refused, and of an accepted event, holds of a step
+  -- whatever holds of each way to be refused, and of an accepted event that frees the circuit or does not, holds of a step
   pub byCases : (P : Step → Type 0)
       → P (nowhere 1 table)
       → P (nowhere 2 table)
       → ((n : ℕ) → (n ≡ 0 → ⊥) → P (refusedAt n table cic))
-      → (cic < recordsIn (length table) → flagsAt table cic ≤ 15 → outcomeAt own far table cic event .refusal ≡ 0 → P (accepted table cic (outcomeAt own far table cic event)))
+      → (cic < recordsIn (length table) → flagsAt table cic ≤ 15 → outcomeAt own far table cic event .refusal ≡ 0
+      → freed (stateAt table cic) (outcomeAt own far table cic event) ≡ false → P (stored table cic (outcomeAt own far table cic event)))
+      → (cic < recordsIn (length table) → flagsAt table cic ≤ 15 → outcomeAt own far table cic event .refusal ≡ 0
+      → freed (stateAt table cic) (outcomeAt own far table cic event) ≡ true → counterIn table < largest → P (released table cic (outcomeAt own far table cic event)))
       → P (stepIn own far table cic event)
   unfolding stepIn onCircuit
-  byCases P p₁ p₂ refused took = go₁ (badGroup own far (recordsIn (length table)))
+  byCases P p₁ p₂ refused stores releases = go₁ (badGroup own far (recordsIn (length table)))
     where
       o : Outcome
       o = outcomeAt own far table cic event
 
+      go₁₃ : cic < recordsIn (length table) → flagsAt table cic ≤ 15 → o .refusal ≡ 0 → freed (stateAt table cic) o ≡ true → (b : Bool) → leb largest (counterIn table) ≡ b → P (cond b (refusedAt 13 table cic) (released table cic o))
+      go₁₃ h l a f true e = refused 13 (λ e. omega arith)
+      go₁₃ h l a f false e = releases h l a f (leb-false _ _ e)
+
+      goₐ : cic < recordsIn (length table) → flagsAt table cic ≤ 15 → o .refusal ≡ 0 → (b : Bool) → freed (stateAt table cic) o ≡ b → P (cond b (freeing table cic o) (stored table cic o))
+      goₐ h l a true e = go₁₃ h l a e (leb largest (counterIn table)) refl
+      goₐ h l a false e = stores h l a e
+
       go₃ : cic < recordsIn (length table) → flagsAt table cic ≤ 15 → (b : Bool) → eqb (o .refusal) 0 ≡ b → P (cond b (accepted table cic o) (refusedAt (o .refusal) table cic))
-      go₃ h l true e = took h l (eqb-true _ _ e)
+      go₃ h l true e = goₐ h l (eqb-true _ _ e) (freed (stateAt table cic) o) refl
       go₃ h l false e = refused (o .refusal) (eqb-false _ _ e)
 
       go₁₂ : cic < recordsIn (length table) → (b : Bool) → ltb 15 (flagsAt table cic) ≡ b → P (cond b (refusedAt 12 table cic) (landed table cic o))
@@ -83,63 +99,107 @@ module _ (own far : ℕ) (table : List ℕ) (cic : ℕ) (event : Found) where
   pub refused : (stepIn own far table cic event .answer .refusal ≡ 0 → ⊥) → Untouched table (stepIn own far table cic event)
   refused =
       byCases (λ s. (s .answer .refusal ≡ 0 → ⊥) → Untouched table s)
-      (λ n. untouched) (λ n. untouched) (λ n h k. untouched) (λ h l a n. absurd (n refl))
+      (λ n. untouched) (λ n. untouched) (λ n h k. untouched) (λ h l a f n. absurd (n refl)) (λ h l a f k n. absurd (n refl))
     where
       untouched : {n s f : ℕ} → Untouched table (record { answer = refusal n s f; table = table })
       untouched = record { table = refl; sends = refl; ind = refl }
 
   -- an accepted event puts into the table, and answers, what one circuit's step says
-  pub took : stepIn own far table cic event .answer .refusal ≡ 0 → stepIn own far table cic event ≡ accepted table cic (outcomeAt own far table cic event)
+  pub took : stepIn own far table cic event .answer .refusal ≡ 0 → stepIn own far table cic event ≡ taking table cic (outcomeAt own far table cic event)
   took =
-      byCases (λ s. s .answer .refusal ≡ 0 → s ≡ accepted table cic (outcomeAt own far table cic event))
-      (λ z. absurd (omega arith)) (λ z. absurd (omega arith)) (λ n h z. absurd (h z)) (λ h l a z. refl)
+      byCases (λ s. s .answer .refusal ≡ 0 → s ≡ taking table cic (outcomeAt own far table cic event))
+      (λ z. absurd (omega arith)) (λ z. absurd (omega arith)) (λ n h z. absurd (h z)) (λ h l a f z. rw f refl) (λ h l a f k z. rw f refl)
 
   -- and changes only that circuit's record
   pub others : (i : ℕ) → (i ≡ cic → ⊥) → Same table (stepIn own far table cic event .table) i
   others i other =
       byCases (λ s. Same table (s .table) i)
-      same same (λ n h. same)
-      (λ h l a. record { state = otherState table cic i _ other; flags = otherFlags table cic i _ other })
+      same same (λ n h. same) (λ h l a f. beside (o .after))
+      (λ h l a f k. record {
+        state = rankedState (put table cic (o .after)) cic i _ ∙ beside (o .after) .state;
+        flags = rankedFlags (put table cic (o .after)) cic i _ ∙ beside (o .after) .flags;
+        rank = otherRank (put table cic (o .after)) cic i _ other ∙ beside (o .after) .rank;
+      })
     where
+      o : Outcome
+      o = outcomeAt own far table cic event
+
       same : Same table table i
-      same = record { state = refl; flags = refl }
+      same = record { state = refl; flags = refl; rank = refl }
+
+      beside : (r : Record) → Same table (put table cic r) i
+      beside r = record { state = otherState table cic i r other; flags = otherFlags table cic i r other; rank = putRank table cic i r }
 
   pub keepsLength : length (stepIn own far table cic event .table) ≡ length table
-  keepsLength = byCases (λ s. length (s .table) ≡ length table) refl refl (λ n h. refl) (λ h l a. putLength table cic _)
+  keepsLength =
+      byCases (λ s. length (s .table) ≡ length table)
+      refl refl (λ n h. refl) (λ h l a f. putLength table cic _) (λ h l a f k. rankedLength (put table cic _) cic _ ∙ putLength table cic _)
 
-  -- of a circuit of the group whose flags are some: the step on the table is one circuit's step on its record
+  -- of a circuit of the group whose flags are some, but for 13: the step on the table is one circuit's step on its record
   pub isStep : badGroup own far (recordsIn (length table)) ≡ false
       → cic < recordsIn (length table)
       → flagsAt table cic ≤ 15
+      → (stepIn own far table cic event .answer .refusal ≡ 13 → ⊥)
       → Carries cic (outcomeAt own far table cic event) (stepIn own far table cic event)
-  isStep good h l = rw (inGroup own far table cic event good h, stepped (controls own far cic) table cic event l) (go (eqb (o .refusal) 0) refl)
+  isStep good h l not13 =
+      let e : stepIn own far table cic event ≡ landed table cic o = inGroup own far table cic event good h ∙ stepped (controls own far cic) table cic event l in
+      subst (Carries cic o) (sym e) (go₃ (eqb (o .refusal) 0) refl (subst (λ (s : Step). s .answer .refusal ≡ 13 → ⊥) e not13))
     where
       o : Outcome
       o = outcomeAt own far table cic event
 
-      go : (b : Bool) → eqb (o .refusal) 0 ≡ b → Carries cic o (cond b (accepted table cic o) (refusedAt (o .refusal) table cic))
-      go true e = record { refusal = sym (eqb-true _ _ e); shown = recordBack (o .after); stored = putRecord table cic (o .after) h; sends = refl; ind = refl }
-      go false e =
+      go₁₃ : o .refusal ≡ 0 → (b : Bool) → (cond b (refusedAt 13 table cic) (released table cic o) .answer .refusal ≡ 13 → ⊥) → Carries cic o (cond b (refusedAt 13 table cic) (released table cic o))
+      go₁₃ a true n = absurd (n refl)
+      go₁₃ a false n = record { refusal = sym a; shown = recordBack (o .after); stored = rankedRecord (put table cic (o .after)) cic cic _ ∙ putRecord table cic (o .after) h; sends = refl; ind = refl }
+
+      goₐ : o .refusal ≡ 0 → (b : Bool) → (cond b (freeing table cic o) (stored table cic o) .answer .refusal ≡ 13 → ⊥) → Carries cic o (cond b (freeing table cic o) (stored table cic o))
+      goₐ a true n = go₁₃ a (leb largest (counterIn table)) n
+      goₐ a false n = record { refusal = sym a; shown = recordBack (o .after); stored = putRecord table cic (o .after) h; sends = refl; ind = refl }
+
+      go₃ : (b : Bool) → eqb (o .refusal) 0 ≡ b → (cond b (accepted table cic o) (refusedAt (o .refusal) table cic) .answer .refusal ≡ 13 → ⊥) → Carries cic o (cond b (accepted table cic o) (refusedAt (o .refusal) table cic))
+      go₃ true e n = goₐ (eqb-true _ _ e) (freed (stateAt table cic) o) n
+      go₃ false e n =
           let k : o ≡ Rows.refused (o .refusal) (recordAt table cic) = keepsFound (controls own far cic) (recordAt table cic) event (eqb-false _ _ e) in
           record { refusal = refl; shown = sym (ap (λ (x : Outcome). x .after) k); stored = sym (ap (λ (x : Outcome). x .after) k); sends = sym (ap (λ (x : Outcome). x .sends) k); ind = sym (ap (λ (x : Outcome). x .ind) k) }
 
-  -- each refusal number is given exactly when document 01 says
+  -- each refusal number is given exactly when documents 01 and 02 say
   pub refusals : stepIn own far table cic event .answer .refusal ≡ refusalIn own far table cic event
-  unfolding stepIn onCircuit
+  unfolding stepIn onCircuit recordOf
   refusals = go₁ (badGroup own far (recordsIn (length table))) (leb (recordsIn (length table)) cic) (ltb 15 (flagsAt table cic))
     where
+      c : Bool
+      c = controls own far cic
+
+      r : Record
+      r = recordAt table cic
+
       o : Outcome
       o = outcomeAt own far table cic event
 
-      number : (b : Bool) → eqb (o .refusal) 0 ≡ b → cond b (accepted table cic o) (refusedAt (o .refusal) table cic) .answer .refusal ≡ refusalFound (recordAt table cic) event
-      number true e = sym (eqb-true _ _ e) ∙ refusesFound (controls own far cic) (recordAt table cic) event
-      number false e = refusesFound (controls own far cic) (recordAt table cic) event
+      n : ℕ
+      n = refusalFound r event
 
-      go₁ : (a b d : Bool) → cond a (nowhere 1 table) (cond b (nowhere 2 table) (cond d (refusedAt 12 table cic) (landed table cic o))) .answer .refusal ≡ cond a 1 (cond b 2 (cond d 12 (refusalFound (recordAt table cic) event)))
+      known : o .refusal ≡ n
+      known = refusesFound c r event
+
+      -- only a valid record's event is accepted, and of a valid record the list says what frees
+      frees : n ≡ 0 → freed (stateAt table cic) o ≡ freesFound c (stateAt table cic) event
+      frees z = freesListedFound c r event (acceptedValid r event z)
+
+      last : (a b : Bool) → cond a (cond b (refusedAt 13 table cic) (released table cic o)) (stored table cic o) .answer .refusal ≡ cond (a && b) 13 0
+      last true true = refl
+      last true false = refl
+      last false b = refl
+
+      number : (b : Bool) → eqb (o .refusal) 0 ≡ b → cond b (accepted table cic o) (refusedAt (o .refusal) table cic) .answer .refusal ≡ cond b (cond (freesFound c (stateAt table cic) event && leb largest (counterIn table)) 13 0) (o .refusal)
+      number true e = rw (frees (sym known ∙ eqb-true _ _ e)) (last (freesFound c (stateAt table cic) event) (leb largest (counterIn table)))
+      number false e = refl
+
+      go₁ : (a b d : Bool) → cond a (nowhere 1 table) (cond b (nowhere 2 table) (cond d (refusedAt 12 table cic) (landed table cic o))) .answer .refusal ≡ cond a 1 (cond b 2 (cond d 12 (cond (eqb n 0) (cond (freesFound c (stateAt table cic) event && leb largest (counterIn table)) 13 0) n)))
       go₁ true b d = refl
       go₁ false true d = refl
       go₁ false false true = refl
-      go₁ false false false = number (eqb (o .refusal) 0) refl
+      go₁ false false false = rw (sym known) (number (eqb (o .refusal) 0) refl)
 
 -- the contract of `step` determines the answer and every octet of the table after it
 pub record Meets (own far : ℕ) (table : List ℕ) (cic : ℕ) (event : Found) (a : Answer) (after : List ℕ) : Type 0 where

@@ -1,10 +1,11 @@
--- Where a circuit's record lies in a lent table of octets, and the laws that all above goes by: nothing else knows the layout.
--- A record is two octets, the state and the flags; record i is circuit i, and a table of zeros is an idle group.
+-- Where things lie in a lent table of octets, and the laws that all above goes by: nothing else knows the layout.
+-- First the counter of releases, a word of eight octets; then a record to each circuit, ten octets: the state, the flags, and the release rank,
+-- a word. Record i is circuit i, and a table of zeros is an idle group.
 -- Assumes nothing.
-use mathlib.Core.Path.{_≡_, refl}
+use mathlib.Core.Path.{_≡_, refl, sym, _∙_}
 use mathlib.Core.Bool.{Bool, true, false, cond}
 use mathlib.Core.List.{List}
-use Prim.Native.Nat.{ℕ, zero, suc, _+_, _*_, _/_, _%_, _<_, _≤_}
+use Prim.Native.Nat.{ℕ, zero, suc, _+_, _*_, _-_, _/_, _%_, _<_, _≤_}
 use native.Mathlib.Omega.{arith}
 use native.Mathlib.Numerals.{unary-clauses}
 use lib.Dec.{eqb, eqb→eq}
@@ -13,20 +14,35 @@ use lib.Seq.{getD-set-same, getD-set-other, lt-length-set}
 use Rattle.circuit.specs.declared.Record.{Record}
 use Rattle.circuit.specs.Records.{rec}
 use Rattle.circuit.specs.Every.{atBelow}
+use Rattle.words.specs.Words as words
+use Rattle.words.specs.Words.{word, putWord, largest}
 
-abbrev pub recordOctets : ℕ
-recordOctets = 2
+abbrev counterOctets : ℕ
+counterOctets = 8
 
--- the records in so many octets: none where they are no whole number of records
+abbrev recordOctets : ℕ
+recordOctets = 10
+
+-- the octets of a table of so many circuits; a circuit's record begins where the table of those before it would end
+abbrev pub tableOctets : ℕ → ℕ
+tableOctets circuits = counterOctets + recordOctets * circuits
+
+-- the records in so many octets: none where they are no counter and whole number of records
 unfoldable pub recordsIn : ℕ → ℕ
-recordsIn octets = cond (eqb (octets % recordOctets) 0) (octets / recordOctets) 0
+recordsIn octets = cond (eqb ((octets - counterOctets) % recordOctets) 0) ((octets - counterOctets) / recordOctets) 0
+
+unfoldable pub counterIn : List ℕ → ℕ
+counterIn table = word table 0
 
 -- the octets of circuit i
 unfoldable pub stateAt : List ℕ → ℕ → ℕ
-stateAt table i = getD table (recordOctets * i) 0
+stateAt table i = getD table (tableOctets i) 0
 
 unfoldable pub flagsAt : List ℕ → ℕ → ℕ
-flagsAt table i = getD table (recordOctets * i + 1) 0
+flagsAt table i = getD table (tableOctets i + 1) 0
+
+unfoldable pub rankAt : List ℕ → ℕ → ℕ
+rankAt table i = word table (tableOctets i + 2)
 
 -- flags: 1 own block, 2 far block, 4 awaiting BLA, 8 awaiting UBA
 abbrev pub bit : Bool → ℕ → ℕ
@@ -41,9 +57,13 @@ recordOf s f = rec s (eqb (f % 2) 1) (eqb (f / 2 % 2) 1) (eqb (f / 4 % 2) 1) (eq
 abbrev pub recordAt : List ℕ → ℕ → Record
 recordAt table i = recordOf (stateAt table i) (flagsAt table i)
 
--- the table with a record put at circuit i
+-- the table with a record put at circuit i, which keeps its rank
 unfoldable pub put : List ℕ → ℕ → Record → List ℕ
-put table i r = set (set table (recordOctets * i) (r .state)) (recordOctets * i + 1) (flagsOf r)
+put table i r = set (set table (tableOctets i) (r .state)) (tableOctets i + 1) (flagsOf r)
+
+-- the table with its counter at n, taken by circuit i as its rank
+unfoldable pub ranked : List ℕ → ℕ → (n : ℕ) → List ℕ
+ranked table i n = putWord (putWord table 0 n) (tableOctets i + 2) n
 
 -- an octet of flags and the flags correspond
 pub flagsBack : (s f : ℕ) → f ≤ 15 → flagsOf (recordOf s f) ≡ f
@@ -81,64 +101,145 @@ recordBack r = go (r .own) (r .far) (r .bla) (r .uba)
     go false false false false = refl
 
 -- a circuit of the table has its octets there
-inside : (octets i : ℕ) → i < recordsIn octets → recordOctets * i + 1 < octets
+inside : (octets i : ℕ) → i < recordsIn octets → tableOctets i + recordOctets ≤ octets
 unfolding recordsIn
-inside octets i h = go (eqb (octets % recordOctets) 0) h
+inside octets i h = go (eqb ((octets - counterOctets) % recordOctets) 0) h
   where
-    go : (b : Bool) → i < cond b (octets / recordOctets) 0 → recordOctets * i + 1 < octets
+    go : (b : Bool) → i < cond b ((octets - counterOctets) / recordOctets) 0 → tableOctets i + recordOctets ≤ octets
     go true h = omega arith
     go false h = absurd (omega arith)
 
+-- fewer octets than the counter has hold no record
+pub shortRecords : (octets : ℕ) → octets < counterOctets → recordsIn octets ≡ 0
+unfolding recordsIn
+shortRecords octets h = let none : octets - counterOctets ≡ 0 = omega arith in rw none
+
+-- so many octets hold so many records
+pub recordsBack : (circuits : ℕ) → recordsIn (tableOctets circuits) ≡ circuits
+unfolding recordsIn
+recordsBack circuits =
+    let rest : tableOctets circuits - counterOctets ≡ recordOctets * circuits = omega arith in
+    let whole : recordOctets * circuits % recordOctets ≡ 0 = omega arith in
+    let back : recordOctets * circuits / recordOctets ≡ circuits = omega arith in
+    rw (rest, whole, back)
+
+-- lengths stay
 pub putLength : (table : List ℕ) (i : ℕ) (r : Record) → length (put table i r) ≡ length table
 unfolding put
 putLength table i r = simp length-set
+
+pub rankedLength : (table : List ℕ) (i n : ℕ) → length (ranked table i n) ≡ length table
+unfolding ranked
+rankedLength table i n = words.putLength 8 (putWord table 0 n) (tableOctets i + 2) n ∙ words.putLength 8 table 0 n
 
 -- what is put is read back
 module _ (table : List ℕ) (i : ℕ) (r : Record) (h : i < recordsIn (length table)) where
   pub putState : stateAt (put table i r) i ≡ r .state
   unfolding stateAt put
   putState =
-      let k : recordOctets * i + 1 < length table = inside (length table) i h in
-      rw (getD-set-other (set table (recordOctets * i) (r .state)) (recordOctets * i + 1) (recordOctets * i) (flagsOf r) 0 (λ e. omega arith), getD-set-same table (recordOctets * i) (r .state) 0 (omega arith))
+      let there : tableOctets i + recordOctets ≤ length table = inside (length table) i h in
+      rw (getD-set-other (set table (tableOctets i) (r .state)) (tableOctets i + 1) (tableOctets i) (flagsOf r) 0 (λ e. omega arith), getD-set-same table (tableOctets i) (r .state) 0 (omega arith))
 
   pub putFlags : flagsAt (put table i r) i ≡ flagsOf r
   unfolding flagsAt put
-  putFlags = getD-set-same (set table (recordOctets * i) (r .state)) (recordOctets * i + 1) (flagsOf r) 0 (lt-length-set table (recordOctets * i) (r .state) (inside (length table) i h))
+  putFlags =
+      let there : tableOctets i + recordOctets ≤ length table = inside (length table) i h in
+      getD-set-same (set table (tableOctets i) (r .state)) (tableOctets i + 1) (flagsOf r) 0 (lt-length-set table (tableOctets i) (r .state) (omega arith))
 
   pub putRecord : recordAt (put table i r) i ≡ r
   putRecord = rw (putState, putFlags, recordBack)
 
--- every other record keeps its octets
-pub otherOctets : (table : List ℕ) (i j : ℕ) (r : Record) → (j ≡ i → ⊥) → (k : ℕ) → k < recordOctets → getD (put table i r) (recordOctets * j + k) 0 ≡ getD table (recordOctets * j + k) 0
+-- putting a record leaves every octet but the circuit's first two
+putOther : (table : List ℕ) (i : ℕ) (r : Record) (k : ℕ) → (k ≡ tableOctets i → ⊥) → (k ≡ tableOctets i + 1 → ⊥) → getD (put table i r) k 0 ≡ getD table k 0
 unfolding put
-otherOctets table i j r other k h =
-    rw (getD-set-other (set table (recordOctets * i) (r .state)) (recordOctets * i + 1) (recordOctets * j + k) (flagsOf r) 0 (λ e. other (omega arith)), getD-set-other table (recordOctets * i) (recordOctets * j + k) (r .state) 0 (λ e. other (omega arith)))
+putOther table i r k first second =
+    getD-set-other (set table (tableOctets i) (r .state)) (tableOctets i + 1) k (flagsOf r) 0 second
+    ∙ getD-set-other table (tableOctets i) k (r .state) 0 first
+
+-- and ranking every octet but the counter's and the rank's
+rankedOther : (table : List ℕ) (i n k : ℕ) → 8 ≤ k → (tableOctets i + 2 ≤ k → k < tableOctets i + 10 → ⊥) → getD (ranked table i n) k 0 ≡ getD table k 0
+unfolding ranked
+rankedOther table i n k low apart =
+    words.other 8 (putWord table 0 n) (tableOctets i + 2) n k (λ p q. apart (omega arith) (omega arith))
+    ∙ words.other 8 table 0 n k (λ p q. omega arith)
+
+-- putting a record changes no counter and no rank
+pub putCounter : (table : List ℕ) (i : ℕ) (r : Record) → counterIn (put table i r) ≡ counterIn table
+unfolding counterIn
+putCounter table i r = words.same 8 table (put table i r) 0 (λ k p q. putOther table i r k (λ e. omega arith) (λ e. omega arith))
+
+pub putRank : (table : List ℕ) (i j : ℕ) (r : Record) → rankAt (put table i r) j ≡ rankAt table j
+unfolding rankAt
+putRank table i j r = words.same 8 table (put table i r) (tableOctets j + 2) (λ k p q. putOther table i r k (λ e. omega arith) (λ e. omega arith))
+
+-- ranking changes no state and no flags
+module _ (table : List ℕ) (i j n : ℕ) where
+  pub rankedState : stateAt (ranked table i n) j ≡ stateAt table j
+  unfolding stateAt
+  rankedState = rankedOther table i n (tableOctets j) (omega arith) (λ p q. omega arith)
+
+  pub rankedFlags : flagsAt (ranked table i n) j ≡ flagsAt table j
+  unfolding flagsAt
+  rankedFlags = rankedOther table i n (tableOctets j + 1) (omega arith) (λ p q. omega arith)
+
+  pub rankedRecord : recordAt (ranked table i n) j ≡ recordAt table j
+  rankedRecord = rw (rankedState, rankedFlags)
+
+-- the counter and the rank are as set
+module _ (table : List ℕ) (i n : ℕ) (h : i < recordsIn (length table)) (fits : n ≤ largest) where
+  pub rankedCounter : counterIn (ranked table i n) ≡ n
+  unfolding counterIn ranked
+  rankedCounter =
+      let there : tableOctets i + recordOctets ≤ length table = inside (length table) i h in
+      words.same 8 (putWord table 0 n) (putWord (putWord table 0 n) (tableOctets i + 2) n) 0 (λ k p q. words.other 8 (putWord table 0 n) (tableOctets i + 2) n k (λ from to. omega arith))
+      ∙ words.back 8 table 0 n (omega arith) (omega arith)
+
+  pub rankedRank : rankAt (ranked table i n) i ≡ n
+  unfolding rankAt ranked
+  rankedRank =
+      let there : tableOctets i + recordOctets ≤ length table = inside (length table) i h in
+      words.back 8 (putWord table 0 n) (tableOctets i + 2) n (rw (words.putLength 8 table 0 n) (omega arith)) (omega arith)
+
+-- every other record keeps its octets
+module _ (table : List ℕ) (i j : ℕ) (other : j ≡ i → ⊥) (k : ℕ) (h : k < recordOctets) where
+  pub otherOctets : (r : Record) → getD (put table i r) (tableOctets j + k) 0 ≡ getD table (tableOctets j + k) 0
+  otherOctets r = putOther table i r (tableOctets j + k) (λ e. other (omega arith)) (λ e. other (omega arith))
+
+  pub otherRanked : (n : ℕ) → getD (ranked table i n) (tableOctets j + k) 0 ≡ getD table (tableOctets j + k) 0
+  otherRanked n = rankedOther table i n (tableOctets j + k) (omega arith) (λ p q. other (omega arith))
 
 module _ (table : List ℕ) (i j : ℕ) (r : Record) (other : j ≡ i → ⊥) where
   pub otherState : stateAt (put table i r) j ≡ stateAt table j
   unfolding stateAt
-  otherState = simp unary-clauses at (otherOctets table i j r other 0 (omega arith))
+  otherState = simp unary-clauses at (otherOctets table i j other 0 (omega arith) r)
 
   pub otherFlags : flagsAt (put table i r) j ≡ flagsAt table j
   unfolding flagsAt
-  otherFlags = otherOctets table i j r other 1 (omega arith)
+  otherFlags = otherOctets table i j other 1 (omega arith) r
 
   pub otherRecord : recordAt (put table i r) j ≡ recordAt table j
   otherRecord = rw (otherState, otherFlags)
+
+pub otherRank : (table : List ℕ) (i j n : ℕ) → (j ≡ i → ⊥) → rankAt (ranked table i n) j ≡ rankAt table j
+unfolding rankAt
+otherRank table i j n other = words.same 8 table (ranked table i n) (tableOctets j + 2) (λ k p q. rankedOther table i n k (omega arith) (λ from to. other (omega arith)))
 
 -- the table of an idle group
 abbrev pub idle : (octets : ℕ) → List ℕ
 idle octets = replicate octets 0
 
-zeros : (n k : ℕ) → getD (idle n) k 0 ≡ 0
-zeros zero k = refl
-zeros (suc n) zero = refl
-zeros (suc n) (suc k) = zeros n k
-
 pub idleState : (octets i : ℕ) → stateAt (idle octets) i ≡ 0
 unfolding stateAt
-idleState octets i = zeros octets (recordOctets * i)
+idleState octets i = words.zeros octets (tableOctets i)
 
 pub idleFlags : (octets i : ℕ) → flagsAt (idle octets) i ≡ 0
 unfolding flagsAt
-idleFlags octets i = zeros octets (recordOctets * i + 1)
+idleFlags octets i = words.zeros octets (tableOctets i + 1)
+
+pub idleRank : (octets i : ℕ) → rankAt (idle octets) i ≡ 0
+unfolding rankAt
+idleRank octets i = words.ofZeros 8 octets (tableOctets i + 2)
+
+pub idleCounter : (octets : ℕ) → counterIn (idle octets) ≡ 0
+unfolding counterIn
+idleCounter octets = words.ofZeros 8 octets 0

@@ -1,7 +1,7 @@
 -- A table of valid records stays one, so a group that starts idle never answers 12.
 -- Assumes nothing.
 use mathlib.Core.Path.{_≡_, refl, sym, _∙_}
-use mathlib.Core.Bool.{Bool, true, false, cond}
+use mathlib.Core.Bool.{Bool, true, false, cond, _&&_}
 use mathlib.Core.List.{List}
 use Prim.Native.Nat.{ℕ, _<_, _≤_}
 use native.Mathlib.Omega.{arith}
@@ -19,9 +19,11 @@ use Rattle.codes.specs.declared.Found.the-variants.{Is, Missing}
 use Rattle.step.specs.Step.{stepFound}
 use Rattle.step.specs.Refusals.{refusal, refusalFound, allowed, runs, seizesBlocked}
 use Rattle.step.specs.Always.{kept}
-use Rattle.group.specs.Layout.{recordsIn, flagsAt, recordOf, recordAt, put, idle, idleState, idleFlags, flagsLow, putLength, putFlags, putRecord, otherFlags, otherRecord}
+use Rattle.step.specs.Frees.{freesFound}
+use Rattle.words.specs.Words.{largest}
+use Rattle.group.specs.Layout.{recordsIn, counterIn, stateAt, flagsAt, recordOf, recordAt, put, ranked, idle, idleState, idleFlags, flagsLow, putLength, putFlags, putRecord, otherFlags, otherRecord, rankedLength, rankedFlags, rankedRecord}
 use Rattle.group.specs.Table.{stepIn}
-use Rattle.group.specs.Laws.{byCases, refusals}
+use Rattle.group.specs.Laws.{outcomeAt, byCases, refusals}
 
 -- a circuit's octets are a record that document 01 allows
 pub record ValidAt (table : List ℕ) (i : ℕ) : Type 0 where
@@ -58,6 +60,12 @@ putValid table cic r v h ok i k = go (eqb i cic) refl
         let other : i ≡ cic → ⊥ = eqb-false i cic e in
         record { flags = rw (otherFlags table cic i r other) (was .flags); allowed = rw (otherRecord table cic i r other) (was .allowed) }
 
+-- and so does a rank that is taken
+rankedValid : (table : List ℕ) (cic n : ℕ) → ValidTable table → ValidTable (ranked table cic n)
+rankedValid table cic n v i k =
+    let was : ValidAt table i = v i (rw rankedLength at k) in
+    record { flags = rw (rankedFlags table cic i n) (was .flags); allowed = rw (rankedRecord table cic i n) (was .allowed) }
+
 -- none of an event's own refusals is 12
 low : (r : Record) (e : Event) → refusal r e ≤ 6
 low r (Arrives s) = omega arith
@@ -89,7 +97,11 @@ module _ (own far : ℕ) (table : List ℕ) (cic : ℕ) (event : Found) (v : Val
   pub staysValid : ValidTable (stepIn own far table cic event .table)
   staysValid =
       byCases own far table cic event (λ s. ValidTable (s .table)) v v (λ n h. v)
-      (λ h l a. putValid table cic _ v h (keptFound (controls own far cic) (recordAt table cic) event (v cic h .allowed)))
+      (λ h l a f. fits h)
+      (λ h l a f k. rankedValid (put table cic (outcomeAt own far table cic event .after)) cic _ (fits h))
+    where
+      fits : cic < recordsIn (length table) → ValidTable (put table cic (outcomeAt own far table cic event .after))
+      fits h = putValid table cic _ v h (keptFound (controls own far cic) (recordAt table cic) event (v cic h .allowed))
 
   pub not12In : stepIn own far table cic event .answer .refusal ≡ 12 → ⊥
   not12In e = go₁ (badGroup own far (recordsIn (length table))) (sym (refusals own far table cic event) ∙ e)
@@ -97,15 +109,26 @@ module _ (own far : ℕ) (table : List ℕ) (cic : ℕ) (event : Found) (v : Val
       n : ℕ
       n = refusalFound (recordAt table cic) event
 
-      go₁₂ : ValidAt table cic → (b : Bool) → ltb 15 (flagsAt table cic) ≡ b → cond b 12 n ≡ 12 → ⊥
-      go₁₂ w true e h = omega (arith, ltb-true 15 (flagsAt table cic) e, w .flags)
-      go₁₂ w false e h = not12 (recordAt table cic) event (w .allowed) h
+      last : Bool
+      last = freesFound (controls own far cic) (stateAt table cic) event && leb largest (counterIn table)
 
-      go₂ : (b : Bool) → leb (recordsIn (length table)) cic ≡ b → cond b 2 (cond (ltb 15 (flagsAt table cic)) 12 n) ≡ 12 → ⊥
+      go₁₃ : (b : Bool) → _≡_ {A = ℕ} (cond b 13 0) 12 → ⊥
+      go₁₃ true h = omega arith
+      go₁₃ false h = omega arith
+
+      go₃ : T (valid (recordAt table cic)) → (b : Bool) → cond b (cond last 13 0) n ≡ 12 → ⊥
+      go₃ w true h = go₁₃ last h
+      go₃ w false h = not12 (recordAt table cic) event w h
+
+      go₁₂ : ValidAt table cic → (b : Bool) → ltb 15 (flagsAt table cic) ≡ b → cond b 12 (cond (eqb n 0) (cond last 13 0) n) ≡ 12 → ⊥
+      go₁₂ w true e h = omega (arith, ltb-true 15 (flagsAt table cic) e, w .flags)
+      go₁₂ w false e h = go₃ (w .allowed) (eqb n 0) h
+
+      go₂ : (b : Bool) → leb (recordsIn (length table)) cic ≡ b → cond b 2 (cond (ltb 15 (flagsAt table cic)) 12 (cond (eqb n 0) (cond last 13 0) n)) ≡ 12 → ⊥
       go₂ true e h = omega arith
       go₂ false e h = go₁₂ (v cic (leb-false _ _ e)) (ltb 15 (flagsAt table cic)) refl h
 
-      go₁ : (b : Bool) → cond b 1 (cond (leb (recordsIn (length table)) cic) 2 (cond (ltb 15 (flagsAt table cic)) 12 n)) ≡ 12 → ⊥
+      go₁ : (b : Bool) → cond b 1 (cond (leb (recordsIn (length table)) cic) 2 (cond (ltb 15 (flagsAt table cic)) 12 (cond (eqb n 0) (cond last 13 0) n))) ≡ 12 → ⊥
       go₁ true h = omega arith
       go₁ false h = go₂ (leb (recordsIn (length table)) cic) refl h
 

@@ -21,26 +21,8 @@ use Rattle.circuit.specs.Every.{implies, then, left, right, everywhere, atValid
 use Rattle.codes.specs.declared.Found.{Found}
 use Rattle.codes.specs.declared.Found.the-variants.{Is, Missing}
 use Rattle.step.specs.Step.{step, stepFound}
-use Rattle.step.specs.Refusals.{within, allowed, runs, seizesBlocked, refusal, refusalFound}
-
--- RLG; and CLF at a crossing, not controlling
-abbrev pub mayFree : (c : Bool) → Event → Bool
-mayFree c (Arrives Iam) = false
-mayFree c (Arrives (Acm octet)) = false
-mayFree c (Arrives Anc) = false
-mayFree c (Arrives Ann) = false
-mayFree c (Arrives Cbk) = false
-mayFree c (Arrives Clf) = not c
-mayFree c (Arrives Ran) = false
-mayFree c (Arrives Rlg) = true
-mayFree c (Arrives Blo) = false
-mayFree c (Arrives Bla) = false
-mayFree c (Arrives Ubl) = false
-mayFree c (Arrives Uba) = false
-mayFree c (Arrives Rsc) = false
-mayFree c (Arrives (Fail f)) = false
-mayFree c (Ordered k) = false
-mayFree c (RunsOut t) = false
+use Rattle.step.specs.Frees.{freed, frees, freesFound}
+use Rattle.step.specs.Refusals.{allowed, runs, seizesBlocked, refusal, refusalFound}
 
 abbrev pub isSignal : Event → Bool
 isSignal (Arrives s) = true
@@ -52,6 +34,16 @@ sent Nothing = 0
 sent (One s) = 1
 sent (Two s t) = 2
 
+-- two tests that come to the same
+abbrev alike : Bool → Bool → Bool
+alike a b = cond a b (not b)
+
+alikeSame : (a b : Bool) → T (alike a b) → a ≡ b
+alikeSame true true t = refl
+alikeSame true false t = absurd t
+alikeSame false true t = absurd t
+alikeSame false false t = refl
+
 -- the claims of an event at a role and a record
 abbrev staysValid : Bool → Record → Event → Bool
 staysValid c r e = valid (step c r e .after)
@@ -60,7 +52,7 @@ abbrev refusesRight : Bool → Record → Event → Bool
 refusesRight c r e = eqb (step c r e .refusal) (refusal r e)
 
 abbrev freesRight : Bool → Record → Event → Bool
-freesRight c r e = implies (within (r .state) 1 5 && eqb (step c r e .after .state) 0) (mayFree c e)
+freesRight c r e = alike (freed (r .state) (step c r e)) (frees c (r .state) e)
 
 abbrev sendsOne : Bool → Record → Event → Bool
 sendsOne c r e = implies (not (isSignal e) && eqb (step c r e .refusal) 0) (eqb (sent (step c r e .sends)) 1)
@@ -68,7 +60,7 @@ sendsOne c r e = implies (not (isSignal e) && eqb (step c r e .refusal) 0) (eqb 
 abbrev claims : Event → Bool → Record → Bool
 claims e c r = staysValid c r e && (refusesRight c r e && (freesRight c r e && sendsOne c r e))
 
-both : (a b : Bool) → T a → T b → T (a && b)
+pub both : (a b : Bool) → T a → T b → T (a && b)
 both true b s t = t
 both false b s t = absurd s
 
@@ -126,12 +118,24 @@ kept c r e v = left (staysValid c r e) _ (holds e c r v)
 pub refuses : (c : Bool) (r : Record) (e : Event) → T (valid r) → step c r e .refusal ≡ refusal r e
 refuses c r e v = eqb→eq _ _ (left (refusesRight c r e) _ (right (staysValid c r e) _ (holds e c r v)))
 
--- nothing but RLG, or CLF at a crossing when not controlling, takes an outgoing or releasing record to idle
-pub frees : (c : Bool) (r : Record) (e : Event) → T (valid r) → T (within (r .state) 1 5) → step c r e .after .state ≡ 0 → T (mayFree c e)
-frees c r e v w idle =
-    then (within (r .state) 1 5 && eqb (step c r e .after .state) 0) (mayFree c e)
-    (left (freesRight c r e) _ (right (refusesRight c r e) _ (right (staysValid c r e) _ (holds e c r v))))
-    (both (within (r .state) 1 5) _ w (subst (λ (s : ℕ). T (eqb s 0)) (sym idle) tt))
+-- exactly the events of the list take a record from another state to idle
+pub freesListed : (c : Bool) (r : Record) (e : Event) → T (valid r) → freed (r .state) (step c r e) ≡ frees c (r .state) e
+freesListed c r e v = alikeSame _ _ (left (freesRight c r e) _ (right (refusesRight c r e) _ (right (staysValid c r e) _ (holds e c r v))))
+
+-- a record that stays as it is frees nothing
+staying : (idle : Bool) → (not idle && idle) ≡ false
+staying true = refl
+staying false = refl
+
+-- the same of an event that may be none
+pub freesListedFound : (c : Bool) (r : Record) (f : Found) → T (valid r) → freed (r .state) (stepFound c r f) ≡ freesFound c (r .state) f
+unfolding stepFound
+freesListedFound c r (Is e) v = freesListed c r e v
+freesListedFound c r Missing v = go (valid r)
+  where
+    go : (b : Bool) → freed (r .state) (cond b (refused 3 r) (refused 12 r)) ≡ false
+    go true = staying (eqb (r .state) 0)
+    go false = staying (eqb (r .state) 0)
 
 -- an accepted command or timer sends exactly one signal
 pub oneSent : (c : Bool) (r : Record) (e : Event) → T (valid r) → T (not (isSignal e)) → step c r e .refusal ≡ 0 → sent (step c r e .sends) ≡ 1

@@ -1,9 +1,11 @@
 -- The three ways in which earlier versions erred (document 01), shut out.
 -- Assumes nothing.
-use mathlib.Core.Path.{_≡_, refl, ap, _∙_}
+use mathlib.Core.Path.{_≡_, refl, sym, ap, _∙_, subst}
 use mathlib.Core.Bool.{Bool, true, false, not, cond, _&&_, _||_}
-use Prim.Native.Nat.{ℕ, zero-le}
-use lib.Dec.{T, eqb, eqb→eq, leb, ltb, le→leb}
+use Prim.Native.Nat.{ℕ, _≤_, zero-le}
+use native.Mathlib.Omega.{arith}
+use lib.Dec.{T, eqb, eqb→eq, leb, ltb, le→leb, leb→le}
+use borrow.Author.Tests.{ne-eqb}
 use Rattle.circuit.specs.declared.Record.{Record}
 use Rattle.circuit.specs.declared.Signal.the-variants.{Iam, Rsc}
 use Rattle.circuit.specs.declared.Sends.{Sends}
@@ -16,16 +18,22 @@ use Rattle.circuit.specs.Rows.{first, answered}
 use Rattle.circuit.specs.Every.{implies, then, left, right, everywhere, atValid}
 use Rattle.step.specs.Step.{step}
 use Rattle.step.specs.Refusals.{within}
-use Rattle.step.specs.Always.{mayFree, frees, sent}
+use Rattle.step.specs.Frees.{frees}
+use Rattle.step.specs.Always.{both, freesListed, sent}
 
 isTrue : (b : Bool) → T b → b ≡ true
 isTrue true t = refl
 isTrue false t = absurd t
 
--- First error: idle on sending CLF, not on RLG. Nothing but RLG, or CLF at a crossing when not controlling, takes an outgoing or
--- releasing record to idle.
-pub freedOnlyByRlg : (c : Bool) (r : Record) (e : Event) → T (valid r) → T (within (r .state) 1 5) → step c r e .after .state ≡ 0 → T (mayFree c e)
-freedOnlyByRlg = frees
+out : (s : ℕ) → T (within s 1 5) → T (not (eqb s 0))
+out s w = let h : 1 ≤ s = leb→le 1 s (left (leb 1 s) _ w) in rw (ne-eqb s 0 (λ e. omega arith)) tt
+
+-- First error: idle on sending CLF, not on RLG. What takes an outgoing or releasing record to idle is in the list of `Frees`: RLG in 5, and
+-- CLF in 1 and 5 not controlling.
+pub freedOnlyByRlg : (c : Bool) (r : Record) (e : Event) → T (valid r) → T (within (r .state) 1 5) → step c r e .after .state ≡ 0 → T (frees c (r .state) e)
+freedOnlyByRlg c r e v w idle =
+    subst T (freesListed c r e v)
+    (both (not (eqb (r .state) 0)) _ (out (r .state) w) (subst (λ (s : ℕ). T (eqb s 0)) (sym idle) tt))
 
 -- Second error: both ends giving way at dual seizure, or the losing end sending CLF. An end that has seized yields when it goes to 6.
 abbrev pub yields : (c : Bool) → Record → Bool

@@ -1,5 +1,6 @@
 pub mod Step
 pub mod Refusals
+pub mod Frees
 pub mod Always
 pub mod Refused
 pub mod Erred

@@ -4,6 +4,7 @@ use mathlib.Core.Path.{_≡_, refl, sym, ap, _∙_, subst}
 use mathlib.Core.Bool.{Bool, true, false, cond}
 use mathlib.Core.List.{List, [], _∷_}
 use Prim.Native.Nat.{ℕ}
+use native.Mathlib.Omega.{arith}
 use lib.Dec.{T}
 use Rattle.circuit.specs.declared.Record.{Record}
 use Rattle.circuit.specs.declared.Row.{Row}
@@ -14,6 +15,7 @@ use Rattle.circuit.specs.Records.{valid}
 use Rattle.circuit.specs.Rows.{fits, done, first, refused, discarded}
 use Rattle.codes.specs.declared.Found.{Found}
 use Rattle.codes.specs.declared.Found.the-variants.{Is, Missing}
+use Rattle.codes.specs.Numbers.{refusalOf}
 use Rattle.signals.specs.Table.{table}
 use Rattle.commands.specs.Tables.{commandTable, commandRefusal, timerTable}
 use Rattle.step.specs.Step.{byTables, step, stepFound}
@@ -79,3 +81,16 @@ refusesFound c r Missing = go (valid r)
     go : (b : Bool) → cond b (refused 3 r) (refused 12 r) .refusal ≡ cond b 3 12
     go true = refl
     go false = refl
+
+-- an event is accepted on a valid record only
+pub acceptedValid : (r : Record) (f : Found) → refusalFound r f ≡ 0 → T (valid r)
+acceptedValid r (Is e) = go (valid r)
+  where
+    go : (b : Bool) → cond b (refusal r e) 12 ≡ 0 → T b
+    go true h = tt
+    go false h = absurd (omega arith)
+acceptedValid r Missing = go (valid r)
+  where
+    go : (b : Bool) → cond b (refusalOf Missing) 12 ≡ 0 → T b
+    go true h = tt
+    go false h = absurd (omega arith)

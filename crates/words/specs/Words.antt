@@ -57,26 +57,19 @@ putLength zero xs at v = refl
 putLength (suc n) xs at v = putLength n (set xs at (v % 256)) (at + 1) (v / 256) ∙ length-set xs at (v % 256)
 
 -- octets outside stay
-pub before : (n : ℕ) (xs : List ℕ) (at v k : ℕ) → k < at → getD (put n xs at v) k 0 ≡ getD xs k 0
+pub other : (n : ℕ) (xs : List ℕ) (at v k : ℕ) → (at ≤ k → k < at + n → ⊥) → getD (put n xs at v) k 0 ≡ getD xs k 0
 unfolding put
-before zero xs at v k h = refl
-before (suc n) xs at v k h =
-    before n (set xs at (v % 256)) (at + 1) (v / 256) k (omega arith)
-    ∙ getD-set-other xs at k (v % 256) 0 (λ e. omega arith)
-
-pub behind : (n : ℕ) (xs : List ℕ) (at v k : ℕ) → at + n ≤ k → getD (put n xs at v) k 0 ≡ getD xs k 0
-unfolding put
-behind zero xs at v k h = refl
-behind (suc n) xs at v k h =
-    behind n (set xs at (v % 256)) (at + 1) (v / 256) k (omega arith)
-    ∙ getD-set-other xs at k (v % 256) 0 (λ e. omega arith)
+other zero xs at v k outside = refl
+other (suc n) xs at v k outside =
+    other n (set xs at (v % 256)) (at + 1) (v / 256) k (λ p q. outside (omega arith) (omega arith))
+    ∙ getD-set-other xs at k (v % 256) 0 (λ e. outside (omega arith) (omega arith))
 
 -- what is put is read back
 pub back : (n : ℕ) (xs : List ℕ) (at v : ℕ) → at + n ≤ length xs → v < 256 ^ n → number n (put n xs at v) at ≡ v
 unfolding number put
 back zero xs at v room fits = omega arith
 back (suc n) xs at v room fits =
-    let first : getD (put n (set xs at (v % 256)) (at + 1) (v / 256)) at 0 ≡ v % 256 = before n (set xs at (v % 256)) (at + 1) (v / 256) at (omega arith) ∙ getD-set-same xs at (v % 256) 0 (omega arith) in
+    let first : getD (put n (set xs at (v % 256)) (at + 1) (v / 256)) at 0 ≡ v % 256 = other n (set xs at (v % 256)) (at + 1) (v / 256) at (λ p q. omega arith) ∙ getD-set-same xs at (v % 256) 0 (omega arith) in
     let rest : number n (put n (set xs at (v % 256)) (at + 1) (v / 256)) (at + 1) ≡ v / 256 = back n (set xs at (v % 256)) (at + 1) (v / 256) (rw length-set (omega arith)) (omega arith) in
     rw (first, rest) (omega arith)
 
@@ -87,7 +80,7 @@ same zero xs ys at h = refl
 same (suc n) xs ys at h = rw (h at (omega arith) (omega arith), same n xs ys (at + 1) (λ k l g. h k (omega arith) (omega arith)))
 
 -- of zeros: 0
-zeros : (n k : ℕ) → getD {A = ℕ} (replicate n 0) k 0 ≡ 0
+pub zeros : (n k : ℕ) → getD {A = ℕ} (replicate n 0) k 0 ≡ 0
 zeros zero k = refl
 zeros (suc n) zero = refl
 zeros (suc n) (suc k) = zeros n k

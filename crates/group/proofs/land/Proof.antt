@@ -5,11 +5,8 @@ use borrow.Author.Needs.{needs}
 use Rattle.group.proofs.land.Statement.{statement}
 use Rattle.group.proofs.land.Tie as tie
 
-put-requires : tie.Need-put-requires
-put-requires c κs = search needs
-
-taken-requires : tie.Need-taken-requires
-taken-requires c κs = search needs
+accept-requires : tie.Need-accept-requires
+accept-requires c κs = search needs
 
 refused-at-requires : tie.Need-refused-at-requires
 refused-at-requires c κs = search needs
@@ -18,7 +15,9 @@ same-length : tie.Need-same-length
 same-length c = search needs
 
 returns : tie.Need-returns
-returns c = let d = c .before .before .before in let t = d .before .before .before .if1 .taken in (simp (eq-eqb _ _ t, c .taken .ensures), simp (eq-eqb _ _ t, d .put .ensures))
+returns c =
+    let d = c .before .before in let t = d .before .before .if1 .taken in
+    (simp (eq-eqb _ _ t, d .accept .ensures .0), simp (eq-eqb _ _ t, d .accept .ensures .1))
 
 same-length-2 : tie.Need-same-length-2
 same-length-2 c = search needs
@@ -29,11 +28,4 @@ returns-2 c = let l = c .before .before .if1 .left in (simp (ne-eqb _ _ l, c .re
 pub land-spec : {M : Type 1} → statement M
 land-spec =
     tie.close
-    (tie.spec
-    put-requires
-    taken-requires
-    refused-at-requires
-    same-length
-    returns
-    same-length-2
-    returns-2)
+    (tie.spec accept-requires refused-at-requires same-length returns same-length-2 returns-2)

@@ -5,18 +5,15 @@ use borrow.Author.Needs.{needs}
 use Rattle.group.proofs.layout.flags_at.Statement.{statement}
 use Rattle.group.proofs.layout.flags_at.Tie as tie
 
-place-requires : tie.Need-place-requires
-place-requires c κs = search needs
-
-add-octet : tie.Need-add-octet
-add-octet c = search needs
+table-octets-requires : tie.Need-table-octets-requires
+table-octets-requires c κs = search needs
 
 octet-requires : tie.Need-octet-requires
 octet-requires c κs = search needs
 
 returns : tie.Need-returns
 unfolding flagsAt
-returns c = rw (c .octet .ensures, c .before .place .ensures .0)
+returns c = rw (c .octet .ensures, c .before .table-octets .ensures .0)
 
 pub flags-at-spec : {M : Type 1} → statement M
-flags-at-spec = tie.close (tie.spec place-requires add-octet octet-requires returns)
+flags-at-spec = tie.close (tie.spec table-octets-requires octet-requires returns)

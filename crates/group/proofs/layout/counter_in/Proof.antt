@@ -1,0 +1,16 @@
+-- `group::layout::counter_in` meets its contract.
+-- Assumes nothing.
+use Rattle.group.specs.Layout.{counterIn}
+use borrow.Author.Needs.{needs}
+use Rattle.group.proofs.layout.counter_in.Statement.{statement}
+use Rattle.group.proofs.layout.counter_in.Tie as tie
+
+word-requires : tie.Need-word-requires
+word-requires c κs = search needs
+
+returns : tie.Need-returns
+unfolding counterIn
+returns c = c .word .ensures
+
+pub counter-in-spec : {M : Type 1} → statement M
+counter-in-spec = tie.close (tie.spec word-requires returns)
