@@ -1,43 +1,138 @@
 // A worked case of a step: the table is laid out, the entry for C is called, and its answer and every octet of the table are compared.
+ghost use Prim.Native.Nat.{_<_};
+
+// A table as a case has it: the counter of releases, a circuit's record from the place `at` on, and one octet everywhere beside these.
+struct Laid {
+    counter: u64,
+    at: usize,
+    state: u8,
+    flags: u8,
+    rank: u64,
+    beside: u8,
+}
 
 fn octet(n: u32) -> u8 {
     (n % 256) as u8
 }
 
-// Where a circuit's record begins, two octets to a record.
+fn low(n: u64) -> u8 {
+    (n % 256) as u8
+}
+
+fn wide(o: u8) -> u64
+    ensures { λ r. ⌜ r < 256 ⌝ }
+{
+    o as u64
+}
+
+// Where a circuit's record begins: behind the counter's eight octets, ten octets to a record.
 fn place(cic: u32) -> usize {
-    2 * (cic as usize)
+    8 + 10 * (cic as usize)
 }
 
-// What stands at a place of a table in which a record lies at `at`.
-fn holds(place: usize, at: usize, state: u8, flags: u8, beside: u8) -> u8 {
-    if place < at {
-        return beside;
+// Fills zeros with an octet.
+fn fill(octets: &mut [u8], o: u8) {
+    if o == 0 {
+        return;
     }
-    match place - at {
-        0 => state,
-        1 => flags,
-        _ => beside,
-    }
-}
-
-fn lay_out(table: &mut [u8], at: usize, state: u8, flags: u8, beside: u8) {
     let mut i = 0;
-    while i < table.len() {
-        table[i] = holds(i, at, state, flags, beside);
+    while i < octets.len() {
+        octets[i] = o;
         i += 1;
     }
 }
 
-fn is_laid_out(table: &[u8], at: usize, state: u8, flags: u8, beside: u8) -> bool {
+// Puts an octet at a place, if there is such a place.
+fn put(octets: &mut [u8], k: usize, o: u8) {
+    if k < octets.len() {
+        octets[k] = o;
+    }
+}
+
+// Puts a number's lowest four octets.
+fn put_four(octets: &mut [u8], n: u64) {
+    put(octets, 0, low(n));
+    put(octets, 1, low(n / 0x100));
+    put(octets, 2, low(n / 0x10000));
+    put(octets, 3, low(n / 0x1000000));
+}
+
+// Puts a number into eight octets, the lowest first.
+fn put_number(octets: &mut [u8], n: u64) {
+    put_four(octets, n);
+    if 4 < octets.len() {
+        put_four(&mut octets[4..], n / 0x100000000);
+    }
+}
+
+// Puts a record, from the place of its state on.
+fn put_record(octets: &mut [u8], t: Laid) {
+    put(octets, 0, t.state);
+    put(octets, 1, t.flags);
+    if 2 < octets.len() {
+        put_number(&mut octets[2..], t.rank);
+    }
+}
+
+// Lays a table out over zeros.
+fn lay_out(table: &mut [u8], t: Laid) {
+    fill(table, t.beside);
+    put_number(table, t.counter);
+    let at = t.at;
+    if at < table.len() {
+        put_record(&mut table[at..], t);
+    }
+}
+
+fn same(octets: &[u8], others: &[u8]) -> bool {
+    if octets.len() != others.len() {
+        return false;
+    }
     let mut i = 0;
-    while i < table.len() {
-        if table[i] != holds(i, at, state, flags, beside) {
+    while i < octets.len() {
+        if octets[i] != others[i] {
             return false;
         }
         i += 1;
     }
     true
+}
+
+// A number of eight octets that are all alike.
+fn alike(o: u8) -> u64 {
+    0x101010101010101 * wide(o)
+}
+
+// The table before the step: a rank like all that stands beside the circuit, and a counter like it but for its lowest octet.
+fn before(f: [u32; 48]) -> Laid {
+    let beside = octet(f[4]);
+    let rank = alike(beside);
+    Laid {
+        counter: rank / 256 * 256 + wide(octet(f[4] / 256)),
+        at: place(f[5]),
+        state: octet(f[6]),
+        flags: octet(f[7]),
+        rank: rank,
+        beside: beside,
+    }
+}
+
+// The table after the step. From another state to idle the counter goes up by one, and the circuit takes it as its rank.
+fn after(f: [u32; 48]) -> Laid {
+    let t = before(f);
+    if f[11] != 0 {
+        return t;
+    }
+    let frees = f[6] != 0 && f[12] == 0;
+    let next = std::num::wrapping_add_u64(t.counter, 1);
+    Laid {
+        counter: if frees { next } else { t.counter },
+        at: t.at,
+        state: octet(f[12]),
+        flags: octet(f[13]),
+        rank: if frees { next } else { t.rank },
+        beside: t.beside,
+    }
 }
 
 // The field of an answer whose lowest bit is worth so much.
@@ -57,29 +152,27 @@ fn is_answer(got: u64, f: [u32; 48]) -> bool {
         && field(got, 0x10000000000) == f[16]
 }
 
-// Whether the step of a case answers, and leaves the table, as the case says. The table is the first part of the space.
-fn right_in(space: &mut [u8], f: [u32; 48]) -> bool {
+// Whether the step of a case answers, and leaves the table, as the case says. The table is the first part of one space, and what it must be
+// after the step is laid out in the other; both are zeros.
+fn right_in(space: &mut [u8], other: &mut [u8], f: [u32; 48]) -> bool {
     let octets = f[3] as usize;
     if space.len() < octets {
         return false;
     }
-    let at = place(f[5]);
-    let beside = octet(f[4]);
-    let table = &mut space[..octets];
-    lay_out(table, at, octet(f[6]), octet(f[7]), beside);
-    let got = tup::tup_step(f[1], f[2], table, f[5], f[8], f[9], f[10]);
-    if !is_answer(got, f) {
+    if other.len() < octets {
         return false;
     }
-    if f[11] == 0 {
-        is_laid_out(table, at, octet(f[12]), octet(f[13]), beside)
-    } else {
-        is_laid_out(table, at, octet(f[6]), octet(f[7]), beside)
-    }
+    let table = &mut space[..octets];
+    let left = &mut other[..octets];
+    lay_out(table, before(f));
+    let got = tup::tup_step(f[1], f[2], table, f[5], f[8], f[9], f[10]);
+    lay_out(left, after(f));
+    is_answer(got, f) && same(table, left)
 }
 
 // A record more than a group may have is the longest table that is tried.
 pub(crate) fn right(f: [u32; 48]) -> bool {
-    let mut space = [0u8; 8194];
-    right_in(&mut space, f)
+    let mut space = [0u8; 40978];
+    let mut other = [0u8; 40978];
+    right_in(&mut space, &mut other, f)
 }

@@ -15,17 +15,8 @@ cast-octets c = search needs
 returns : tie.Need-returns
 returns c = search needs
 
-array-read-place : tie.Need-array-read-place
-array-read-place c = search needs
-
-place-requires : tie.Need-place-requires
-place-requires c κs = search needs
-
-array-read-octet : tie.Need-array-read-octet
-array-read-octet c = search needs
-
-octet-requires : tie.Need-octet-requires
-octet-requires c κs = search needs
+returns-2 : tie.Need-returns-2
+returns-2 c = search needs
 
 slice-relend-prefix-table : tie.Need-slice-relend-prefix-table
 slice-relend-prefix-table c = search needs
@@ -33,17 +24,14 @@ slice-relend-prefix-table c = search needs
 slice-aggregate-table : tie.Need-slice-aggregate-table
 slice-aggregate-table c = simp length-take (omega arith)
 
-array-read-octet-2 : tie.Need-array-read-octet-2
-array-read-octet-2 c = search needs
+slice-relend-prefix-left : tie.Need-slice-relend-prefix-left
+slice-relend-prefix-left c = search needs
 
-octet-requires-2 : tie.Need-octet-requires-2
-octet-requires-2 c κs = search needs
+slice-aggregate-left : tie.Need-slice-aggregate-left
+slice-aggregate-left c = simp length-take (omega arith)
 
-array-read-octet-3 : tie.Need-array-read-octet-3
-array-read-octet-3 c = search needs
-
-octet-requires-3 : tie.Need-octet-requires-3
-octet-requires-3 c κs = search needs
+before-requires : tie.Need-before-requires
+before-requires c κs = search needs
 
 lay-out-requires : tie.Need-lay-out-requires
 lay-out-requires c κs = search needs
@@ -69,47 +57,20 @@ array-read-tup-step-6 c = search needs
 tup-step-requires : tie.Need-tup-step-requires
 tup-step-requires c κs = search needs
 
+after-requires : tie.Need-after-requires
+after-requires c κs = search needs
+
+lay-out-requires-2 : tie.Need-lay-out-requires-2
+lay-out-requires-2 c κs = search needs
+
 is-answer-requires : tie.Need-is-answer-requires
 is-answer-requires c κs = search needs
 
+same-requires : tie.Need-same-requires
+same-requires c κs = search needs
+
 same-length : tie.Need-same-length
 same-length c = search needs
-
-returns-2 : tie.Need-returns-2
-returns-2 c = search needs
-
-array-read-if3 : tie.Need-array-read-if3
-array-read-if3 c = search needs
-
-array-read-octet-4 : tie.Need-array-read-octet-4
-array-read-octet-4 c = search needs
-
-octet-requires-4 : tie.Need-octet-requires-4
-octet-requires-4 c κs = search needs
-
-array-read-octet-5 : tie.Need-array-read-octet-5
-array-read-octet-5 c = search needs
-
-octet-requires-5 : tie.Need-octet-requires-5
-octet-requires-5 c κs = search needs
-
-is-laid-out-requires : tie.Need-is-laid-out-requires
-is-laid-out-requires c κs = search needs
-
-array-read-octet-6 : tie.Need-array-read-octet-6
-array-read-octet-6 c = search needs
-
-octet-requires-6 : tie.Need-octet-requires-6
-octet-requires-6 c κs = search needs
-
-array-read-octet-7 : tie.Need-array-read-octet-7
-array-read-octet-7 c = search needs
-
-octet-requires-7 : tie.Need-octet-requires-7
-octet-requires-7 c κs = search needs
-
-is-laid-out-requires-2 : tie.Need-is-laid-out-requires-2
-is-laid-out-requires-2 c κs = search needs
 
 same-length-2 : tie.Need-same-length-2
 same-length-2 c = search needs
@@ -119,6 +80,9 @@ returns-3 c = search needs
 
 same-length-3 : tie.Need-same-length-3
 same-length-3 c = search needs
+
+same-length-4 : tie.Need-same-length-4
+same-length-4 c = search needs
 
 returns-4 : tie.Need-returns-4
 returns-4 c = search needs
@@ -130,16 +94,12 @@ right-in-spec =
     array-read-octets
     cast-octets
     returns
-    array-read-place
-    place-requires
-    array-read-octet
-    octet-requires
+    returns-2
     slice-relend-prefix-table
     slice-aggregate-table
-    array-read-octet-2
-    octet-requires-2
-    array-read-octet-3
-    octet-requires-3
+    slice-relend-prefix-left
+    slice-aggregate-left
+    before-requires
     lay-out-requires
     array-read-tup-step
     array-read-tup-step-2
@@ -148,21 +108,13 @@ right-in-spec =
     array-read-tup-step-5
     array-read-tup-step-6
     tup-step-requires
+    after-requires
+    lay-out-requires-2
     is-answer-requires
+    same-requires
     same-length
-    returns-2
-    array-read-if3
-    array-read-octet-4
-    octet-requires-4
-    array-read-octet-5
-    octet-requires-5
-    is-laid-out-requires
-    array-read-octet-6
-    octet-requires-6
-    array-read-octet-7
-    octet-requires-7
-    is-laid-out-requires-2
     same-length-2
     returns-3
     same-length-3
+    same-length-4
     returns-4)
