@@ -7,6 +7,7 @@ ghost use Prim.Native.Nat.{_≤_};
 ghost use Rattle.group.specs.Layout.{tableOctets, recordsIn, counterIn, stateAt, flagsAt, bit, flagsOf, recordOf, put, putCounter, putRank};
 
 const COUNTER_OCTETS: usize = 8;
+
 const RECORD_OCTETS: usize = 10;
 
 // The octets of a table of so many circuits. A circuit's record begins where the table of those before it would end.
