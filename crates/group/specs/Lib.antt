@@ -3,6 +3,6 @@ pub mod Table
 pub mod Cases
 pub mod Refusals
 pub mod Laws
-pub mod Ranks
 pub mod Valid
+pub mod Ranks
 pub mod Roles

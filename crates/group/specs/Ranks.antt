@@ -5,15 +5,21 @@ use mathlib.Core.Bool.{Bool, true, false, not, cond, _&&_}
 use mathlib.Core.List.{List}
 use Prim.Native.Nat.{ℕ, _+_, _<_, _≤_}
 use native.Mathlib.Omega.{arith}
-use lib.Dec.{eqb}
+use lib.Dec.{T, eqb, leb, ltb, leb→le}
 use lib.ListN.{length}
 use borrow.Author.Tests.{eqb-true, eqb-false, eq-eqb}
 use Rattle.circuit.specs.declared.Record.{Record}
+use Rattle.circuit.specs.Records.{valid}
+use Rattle.circuit.specs.Groups.{badGroup, controls}
 use Rattle.codes.specs.declared.Found.{Found}
+use Rattle.codes.specs.declared.Found.the-variants.{Is, Missing}
+use Rattle.step.specs.Refusals.{refusal, refusalFound}
+use Rattle.step.specs.Frees.{freesFound}
 use Rattle.words.specs.Words.{largest}
-use Rattle.group.specs.Layout.{recordsIn, counterIn, stateAt, rankAt, put, ranked, idle, idleRank, idleCounter, putState, putLength, putKeepsCounter, putKeepsRank, rankedState, rankedCounter, rankedRank, otherRank}
+use Rattle.group.specs.Layout.{recordsIn, counterIn, stateAt, flagsAt, rankAt, recordAt, put, ranked, idle, idleRank, idleCounter, putState, putLength, putKeepsCounter, putKeepsRank, rankedState, rankedCounter, rankedRank, otherRank}
 use Rattle.group.specs.Table.{stepIn}
-use Rattle.group.specs.Laws.{byCases, keepsLength}
+use Rattle.group.specs.Laws.{byCases, keepsLength, refusals}
+use Rattle.group.specs.Valid.{low}
 
 -- the circuit went from another state to idle
 abbrev pub idled : (before after : List ℕ) → (cic : ℕ) → Bool
@@ -156,3 +162,51 @@ later own far first second i j e f p between q =
 -- every table that started at zeros
 pub idleRanked : (octets : ℕ) → Ranked (idle octets)
 idleRanked octets i h = rw (idleRank octets i, idleCounter octets) (omega arith)
+
+-- 13 is given at the largest value only
+lowFound : (r : Record) (f : Found) → refusalFound r f ≤ 12
+lowFound r (Is e) = go (valid r)
+  where
+    go : (b : Bool) → cond b (refusal r e) 12 ≤ 12
+    go true = omega (arith, low r e)
+    go false = omega arith
+lowFound r Missing = go (valid r)
+  where
+    go : (b : Bool) → cond b 3 12 ≤ 12
+    go true = omega arith
+    go false = omega arith
+
+pub spentAt : (own far : ℕ) (table : List ℕ) (cic : ℕ) (event : Found) → stepIn own far table cic event .answer .refusal ≡ 13 → largest ≤ counterIn table
+spentAt own far table cic event e =
+    leb→le largest (counterIn table)
+    (go (badGroup own far (recordsIn (length table))) (leb (recordsIn (length table)) cic) (ltb 15 (flagsAt table cic)) (eqb (refusalFound (recordAt table cic) event) 0)
+    (freesFound (controls own far cic) (stateAt table cic) event) (leb largest (counterIn table)) (refusalFound (recordAt table cic) event)
+    (lowFound (recordAt table cic) event) (sym (refusals own far table cic event) ∙ e))
+  where
+    go : (a b c d f spent : Bool) (n : ℕ) → n ≤ 12 → cond a 1 (cond b 2 (cond c 12 (cond d (cond (f && spent) 13 0) n))) ≡ 13 → T spent
+    go true b c d f spent n h k = absurd (omega arith)
+    go false true c d f spent n h k = absurd (omega arith)
+    go false false true d f spent n h k = absurd (omega arith)
+    go false false false false f spent n h k = absurd (omega arith)
+    go false false false true false spent n h k = absurd (omega arith)
+    go false false false true true true n h k = tt
+    go false false false true true false n h k = absurd (omega arith)
+
+-- so a group that starts idle answers 13 at none of its first 2^64 - 1 events
+abbrev pub events : {own far : ℕ} {first last : List ℕ} → Follows own far first last → ℕ
+events start = 0
+events (next f cic event) = events f + 1
+
+once : (b : Bool) (n m k : ℕ) → m ≡ cond b (n + 1) n → n ≤ k → m ≤ k + 1
+once true n m k e h = omega arith
+once false n m k e h = omega arith
+
+atMostOneEach : {own far : ℕ} {first last : List ℕ} (f : Follows own far first last) → counterIn last ≤ counterIn first + events f
+atMostOneEach start = omega arith
+atMostOneEach {own} {far} {first} (next {table} f cic event) =
+    omega (arith, once (idled table (stepIn own far table cic event .table) cic) (counterIn table) (counterIn (stepIn own far table cic event .table)) (counterIn first + events f) (counted own far table cic event .counter) (atMostOneEach f))
+
+pub never13 : {own far : ℕ} {table : List ℕ} (octets : ℕ) (f : Follows own far (idle octets) table) → events f < largest
+    → (cic : ℕ) (event : Found) → stepIn own far table cic event .answer .refusal ≡ 13 → ⊥
+never13 {own} {far} {table} octets f few cic event e =
+    omega (arith, spentAt own far table cic event e, atMostOneEach f, idleCounter octets)
