@@ -24,7 +24,7 @@ use Rattle.group.specs.Valid as grouped
 use Rattle.group.specs.Valid.{ValidAt, ValidTable, staysValid, reachedValid}
 use Rattle.ends.specs.Ends as ends
 use Rattle.ends.proofs.Claim.{twoEndsAgree}
-use Rattle.exchanges.specs.Tables.{Exchange, endAt, Both, acted, arrival, given, elsewhere, Happening, Happening.arrives, Happening.host, Happening.beside, turn, Reached, Reached.start, Reached.atFirst, Reached.atSecond, Claim}
+use Rattle.exchanges.specs.Tables.{Exchange, endAt, Both, acted, arrival, given, elsewhere, Happening, Happening.arrives, Happening.host, Happening.beside, turn, arrivalRefusal, refusal, Reached, Reached.start, Reached.atFirst, Reached.atSecond, Claim}
 
 -- a table is that of a group which has the circuit, and its records are valid
 record Good (own far cic : ℕ) (table : List ℕ) : Type 0 where
@@ -51,9 +51,9 @@ module _ (own far cic : ℕ) where
   }
 
   -- the step on the table is the step of the circuit's end
-  acts : (table : List ℕ) (e : Found) (rest : List Signal) (other : Exchange) → Good own far cic table → ends.acted (ends.does (controls own far cic) (recordAt table cic) e) rest (endAt cic other) ≡ endsAt cic (acted (stepIn own far table cic e) rest other)
+  acts : (table : List ℕ) (e : Found) (rest : List Signal) (other : Exchange) → Good own far cic table → (stepIn own far table cic e .answer .refusal ≡ 13 → ⊥) → ends.acted (ends.does (controls own far cic) (recordAt table cic) e) rest (endAt cic other) ≡ endsAt cic (acted (stepIn own far table cic e) rest other)
   unfolding ends.does
-  acts table e rest other g =
+  acts table e rest other g not13 =
       ap (λ (r : Record). pair r (o .sends) rest (endAt cic other)) (sym (k .stored))
       ∙ ap (λ (s : Sends). pair (recordAt (stepIn own far table cic e .table) cic) s rest (endAt cic other)) (sym (k .sends))
     where
@@ -61,21 +61,21 @@ module _ (own far cic : ℕ) where
       o = stepFound (controls own far cic) (recordAt table cic) e
 
       k : Carries cic o (stepIn own far table cic e)
-      k = isStep own far table cic e (g .group) (g .has) (g .valid cic (g .has) .flags)
+      k = isStep own far table cic e (g .group) (g .has) (g .valid cic (g .has) .flags) not13
 
-  arrived : (table : List ℕ) (queue : List Signal) (other : Exchange) → Good own far cic table → ends.arrival (controls own far cic) (recordAt table cic) queue (endAt cic other) ≡ endsAt cic (arrival own far cic table queue other)
-  arrived table [] other g = refl
-  arrived table (s ∷ rest) other g = acts table (Is (Arrives s)) rest other g
+  arrived : (table : List ℕ) (queue : List Signal) (other : Exchange) → Good own far cic table → (arrivalRefusal own far cic table queue ≡ 13 → ⊥) → ends.arrival (controls own far cic) (recordAt table cic) queue (endAt cic other) ≡ endsAt cic (arrival own far cic table queue other)
+  arrived table [] other g not13 = refl
+  arrived table (s ∷ rest) other g not13 = acts table (Is (Arrives s)) rest other g not13
 
-  hosted : (w : ends.When) (e : Found) (me other : Exchange) → Good own far cic (me .table) → ends.given w (controls own far cic) e (endAt cic me) (endAt cic other) ≡ endsAt cic (given own far cic w e me other)
-  hosted ends.When.anyTime e me other g = acts (me .table) e (me .coming) other g
-  hosted ends.When.inSilence e me other g = go (ends.empty (me .coming) && ends.empty (other .coming))
+  hosted : (w : ends.When) (e : Found) (me other : Exchange) → Good own far cic (me .table) → (stepIn own far (me .table) cic e .answer .refusal ≡ 13 → ⊥) → ends.given w (controls own far cic) e (endAt cic me) (endAt cic other) ≡ endsAt cic (given own far cic w e me other)
+  hosted ends.When.anyTime e me other g not13 = acts (me .table) e (me .coming) other g not13
+  hosted ends.When.inSilence e me other g not13 = go (ends.empty (me .coming) && ends.empty (other .coming))
     where
       go : (b : Bool) → cond b (ends.acted (ends.does (controls own far cic) (recordAt (me .table) cic) e) (me .coming) (endAt cic other)) (endAt cic me, endAt cic other) ≡ endsAt cic (cond b (acted (stepIn own far (me .table) cic e) (me .coming) other) (me, other))
-      go true = acts (me .table) e (me .coming) other g
+      go true = acts (me .table) e (me .coming) other g not13
       go false = refl
-  hosted ends.When.losingAll e me other g = acts (me .table) e [] (record { table = other .table; coming = [] }) g
-  hosted ends.When.never e me other g = refl
+  hosted ends.When.losingAll e me other g not13 = acts (me .table) e [] (record { table = other .table; coming = [] }) g not13
+  hosted ends.When.never e me other g not13 = refl
 
   -- an event on another circuit leaves both ends of this one as they are
   apart : (i : ℕ) (e : Found) (me other : Exchange) → (endAt cic me, endAt cic other) ≡ endsAt cic (elsewhere own far cic i e me other)
@@ -94,10 +94,10 @@ module _ (own far cic : ℕ) where
   seen (host e) = ends.Happening.host e
   seen (beside i e) = ends.Happening.host (Is (Arrives Iam))
 
-  turned : (h : Happening) (me other : Exchange) → Good own far cic (me .table) → ends.turn (controls own far cic) (seen h) (endAt cic me) (endAt cic other) ≡ endsAt cic (turn own far cic h me other)
-  turned arrives me other g = arrived (me .table) (me .coming) other g
-  turned (host e) me other g = hosted (ends.whenGiven e) e me other g
-  turned (beside i e) me other g = apart i e me other
+  turned : (h : Happening) (me other : Exchange) → Good own far cic (me .table) → (refusal own far cic h me ≡ 13 → ⊥) → ends.turn (controls own far cic) (seen h) (endAt cic me) (endAt cic other) ≡ endsAt cic (turn own far cic h me other)
+  turned arrives me other g not13 = arrived (me .table) (me .coming) other g not13
+  turned (host e) me other g not13 = hosted (ends.whenGiven e) e me other g not13
+  turned (beside i e) me other g not13 = apart i e me other
 
   -- the exchange where something happens keeps its table good, and the other keeps its table
   record Kept (p : Both) (other : Exchange) : Type 0 where
@@ -150,7 +150,7 @@ module _ (own far cic m n : ℕ) (good : badGroup own far (recordsIn m) ≡ fals
     second = idleGood far own cic n good' h';
     reached = rw (idleEnd cic m, idleEnd cic n) ends.Reached.start;
   }
-  holds (atFirst {x} {y} r e) = next (holds r)
+  holds (atFirst {x} {y} r e not13) = next (holds r)
     where
       next : Holds own far cic x y → Holds own far cic (turn own far cic e x y .0) (turn own far cic e x y .1)
       next i =
@@ -158,9 +158,9 @@ module _ (own far cic m n : ℕ) (good : badGroup own far (recordsIn m) ≡ fals
           record {
             first = k .mine;
             second = rw (k .theirs) (i .second);
-            reached = subst (λ (p : ends.Pair). ends.Reached (controls own far cic) (controls far own cic) (p .0) (p .1)) (turned own far cic e x y (i .first)) (ends.Reached.atFirst (i .reached) (seen own far cic e));
+            reached = subst (λ (p : ends.Pair). ends.Reached (controls own far cic) (controls far own cic) (p .0) (p .1)) (turned own far cic e x y (i .first) not13) (ends.Reached.atFirst (i .reached) (seen own far cic e));
           }
-  holds (atSecond {x} {y} r e) = next (holds r)
+  holds (atSecond {x} {y} r e not13) = next (holds r)
     where
       next : Holds own far cic x y → Holds own far cic (turn far own cic e y x .1) (turn far own cic e y x .0)
       next i =
@@ -168,7 +168,7 @@ module _ (own far cic m n : ℕ) (good : badGroup own far (recordsIn m) ≡ fals
           record {
             first = rw (k .theirs) (i .first);
             second = k .mine;
-            reached = subst (λ (p : ends.Pair). ends.Reached (controls own far cic) (controls far own cic) (p .1) (p .0)) (turned far own cic e y x (i .second)) (ends.Reached.atSecond (i .reached) (seen far own cic e));
+            reached = subst (λ (p : ends.Pair). ends.Reached (controls own far cic) (controls far own cic) (p .1) (p .0)) (turned far own cic e y x (i .second) not13) (ends.Reached.atSecond (i .reached) (seen far own cic e));
           }
 
 -- two codes of a group are different

@@ -58,13 +58,26 @@ turn own far cic arrives me other = arrival own far cic (me .table) (me .coming)
 turn own far cic (host e) me other = given own far cic (whenGiven e) e me other
 turn own far cic (beside i e) me other = elsewhere own far cic i e me other
 
--- what two exchanges come to whose tables, of so many octets, are idle at first
+-- the refusal of the event that happens; 0 where there is none
+abbrev pub arrivalRefusal : (own far cic : ℕ) → List ℕ → List Signal → ℕ
+arrivalRefusal own far cic table [] = 0
+arrivalRefusal own far cic table (s ∷ rest) = stepIn own far table cic (Is (Arrives s)) .answer .refusal
+
+abbrev pub refusal : (own far cic : ℕ) → Happening → (me : Exchange) → ℕ
+refusal own far cic arrives me = arrivalRefusal own far cic (me .table) (me .coming)
+refusal own far cic (host e) me = stepIn own far (me .table) cic e .answer .refusal
+refusal own far cic (beside i e) me = stepIn own far (me .table) i e .answer .refusal
+
+-- what two exchanges come to whose tables, of so many octets, are idle at first, while no event is refused 13
 pub data Reached (own far cic m n : ℕ) : Exchange → Exchange → Type 0 where
   start : Reached own far cic m n (record { table = idle m; coming = [] }) (record { table = idle n; coming = [] })
-  atFirst : {x y : Exchange} → Reached own far cic m n x y → (h : Happening) → Reached own far cic m n (turn own far cic h x y .0) (turn own far cic h x y .1)
-  atSecond : {x y : Exchange} → Reached own far cic m n x y → (h : Happening) → Reached own far cic m n (turn far own cic h y x .1) (turn far own cic h y x .0)
+  atFirst : {x y : Exchange} → Reached own far cic m n x y → (h : Happening) → (refusal own far cic h x ≡ 13 → ⊥)
+      → Reached own far cic m n (turn own far cic h x y .0) (turn own far cic h x y .1)
+  atSecond : {x y : Exchange} → Reached own far cic m n x y → (h : Happening) → (refusal far own cic h y ≡ 13 → ⊥)
+      → Reached own far cic m n (turn far own cic h y x .1) (turn far own cic h y x .0)
 
--- Demand 3 of two tables: for every two groups with mirrored codes and every circuit that both have, whatever happens on it and beside it.
+-- Demand 3 of two tables: for every two groups with mirrored codes and every circuit that both have, whatever happens on it and beside it while
+-- no event is refused 13. It reads states and flags, not ranks.
 unfoldable pub Claim : Type 0
 Claim =
     (own far cic m n : ℕ) → badGroup own far (recordsIn m) ≡ false → badGroup far own (recordsIn n) ≡ false

@@ -21,7 +21,7 @@ use Rattle.step.specs.Frees.{freed, freesFound}
 use Rattle.step.specs.Always.{freesListedFound}
 use Rattle.words.specs.Words.{largest}
 use Rattle.group.specs.declared.Answer.{Answer}
-use Rattle.group.specs.Layout.{recordsIn, counterIn, stateAt, flagsAt, rankAt, recordOf, recordAt, put, recordBack, putLength, putRecord, putRank, otherState, otherFlags, otherRank, rankedLength, rankedState, rankedFlags, rankedRecord}
+use Rattle.group.specs.Layout.{recordsIn, counterIn, stateAt, flagsAt, rankAt, recordOf, recordAt, put, recordBack, putLength, putRecord, putKeepsRank, otherState, otherFlags, otherRank, rankedLength, rankedState, rankedFlags, rankedRecord}
 use Rattle.group.specs.Table.{Step, refusal, nowhere, refusedAt, stored, released, freeing, accepted, landed, onCircuit, stepIn}
 use Rattle.group.specs.Cases.{stepped, inGroup}
 use Rattle.group.specs.Refusals.{refusalIn}
@@ -128,7 +128,7 @@ module _ (own far : ℕ) (table : List ℕ) (cic : ℕ) (event : Found) where
       same = record { state = refl; flags = refl; rank = refl }
 
       beside : (r : Record) → Same table (put table cic r) i
-      beside r = record { state = otherState table cic i r other; flags = otherFlags table cic i r other; rank = putRank table cic i r }
+      beside r = record { state = otherState table cic i r other; flags = otherFlags table cic i r other; rank = putKeepsRank table cic i r }
 
   pub keepsLength : length (stepIn own far table cic event .table) ≡ length table
   keepsLength =

@@ -61,9 +61,16 @@ recordAt table i = recordOf (stateAt table i) (flagsAt table i)
 unfoldable pub put : List ℕ → ℕ → Record → List ℕ
 put table i r = set (set table (tableOctets i) (r .state)) (tableOctets i + 1) (flagsOf r)
 
--- the table with its counter at n, taken by circuit i as its rank
-unfoldable pub ranked : List ℕ → ℕ → (n : ℕ) → List ℕ
-ranked table i n = putWord (putWord table 0 n) (tableOctets i + 2) n
+-- the table with its counter at n, and with the rank n at circuit i
+unfoldable pub putCounter : List ℕ → (n : ℕ) → List ℕ
+putCounter table n = putWord table 0 n
+
+unfoldable pub putRank : List ℕ → ℕ → (n : ℕ) → List ℕ
+putRank table i n = putWord table (tableOctets i + 2) n
+
+-- with both: the circuit takes the counter
+abbrev pub ranked : List ℕ → ℕ → (n : ℕ) → List ℕ
+ranked table i n = putRank (putCounter table n) i n
 
 -- an octet of flags and the flags correspond
 pub flagsBack : (s f : ℕ) → f ≤ 15 → flagsOf (recordOf s f) ≡ f
@@ -129,7 +136,7 @@ unfolding put
 putLength table i r = simp length-set
 
 pub rankedLength : (table : List ℕ) (i n : ℕ) → length (ranked table i n) ≡ length table
-unfolding ranked
+unfolding putCounter putRank
 rankedLength table i n = words.putLength 8 (putWord table 0 n) (tableOctets i + 2) n ∙ words.putLength 8 table 0 n
 
 -- what is put is read back
@@ -158,19 +165,19 @@ putOther table i r k first second =
 
 -- and ranking every octet but the counter's and the rank's
 rankedOther : (table : List ℕ) (i n k : ℕ) → 8 ≤ k → (tableOctets i + 2 ≤ k → k < tableOctets i + 10 → ⊥) → getD (ranked table i n) k 0 ≡ getD table k 0
-unfolding ranked
+unfolding putCounter putRank
 rankedOther table i n k low apart =
     words.other 8 (putWord table 0 n) (tableOctets i + 2) n k (λ p q. apart (omega arith) (omega arith))
     ∙ words.other 8 table 0 n k (λ p q. omega arith)
 
 -- putting a record changes no counter and no rank
-pub putCounter : (table : List ℕ) (i : ℕ) (r : Record) → counterIn (put table i r) ≡ counterIn table
+pub putKeepsCounter : (table : List ℕ) (i : ℕ) (r : Record) → counterIn (put table i r) ≡ counterIn table
 unfolding counterIn
-putCounter table i r = words.same 8 table (put table i r) 0 (λ k p q. putOther table i r k (λ e. omega arith) (λ e. omega arith))
+putKeepsCounter table i r = words.same 8 table (put table i r) 0 (λ k p q. putOther table i r k (λ e. omega arith) (λ e. omega arith))
 
-pub putRank : (table : List ℕ) (i j : ℕ) (r : Record) → rankAt (put table i r) j ≡ rankAt table j
+pub putKeepsRank : (table : List ℕ) (i j : ℕ) (r : Record) → rankAt (put table i r) j ≡ rankAt table j
 unfolding rankAt
-putRank table i j r = words.same 8 table (put table i r) (tableOctets j + 2) (λ k p q. putOther table i r k (λ e. omega arith) (λ e. omega arith))
+putKeepsRank table i j r = words.same 8 table (put table i r) (tableOctets j + 2) (λ k p q. putOther table i r k (λ e. omega arith) (λ e. omega arith))
 
 -- ranking changes no state and no flags
 module _ (table : List ℕ) (i j n : ℕ) where
@@ -188,14 +195,14 @@ module _ (table : List ℕ) (i j n : ℕ) where
 -- the counter and the rank are as set
 module _ (table : List ℕ) (i n : ℕ) (h : i < recordsIn (length table)) (fits : n ≤ largest) where
   pub rankedCounter : counterIn (ranked table i n) ≡ n
-  unfolding counterIn ranked
+  unfolding counterIn putCounter putRank
   rankedCounter =
       let there : tableOctets i + recordOctets ≤ length table = inside (length table) i h in
       words.same 8 (putWord table 0 n) (putWord (putWord table 0 n) (tableOctets i + 2) n) 0 (λ k p q. words.other 8 (putWord table 0 n) (tableOctets i + 2) n k (λ from to. omega arith))
       ∙ words.back 8 table 0 n (omega arith) (omega arith)
 
   pub rankedRank : rankAt (ranked table i n) i ≡ n
-  unfolding rankAt ranked
+  unfolding rankAt putCounter putRank
   rankedRank =
       let there : tableOctets i + recordOctets ≤ length table = inside (length table) i h in
       words.back 8 (putWord table 0 n) (tableOctets i + 2) n (rw (words.putLength 8 table 0 n) (omega arith)) (omega arith)

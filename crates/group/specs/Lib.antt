@@ -4,4 +4,5 @@ pub mod Cases
 pub mod Refusals
 pub mod Laws
 pub mod Valid
+pub mod Ranks
 pub mod Roles

@@ -67,7 +67,7 @@ rankedValid table cic n v i k =
     record { flags = rw (rankedFlags table cic i n) (was .flags); allowed = rw (rankedRecord table cic i n) (was .allowed) }
 
 -- none of an event's own refusals is 12
-low : (r : Record) (e : Event) → refusal r e ≤ 6
+pub low : (r : Record) (e : Event) → refusal r e ≤ 6
 low r (Arrives s) = omega arith
 low r (Ordered k) = go (allowed r k) (seizesBlocked r k)
   where

@@ -4,9 +4,10 @@ use circuit::Cic;
 use circuit::Record;
 ghost use mathlib.Core.Path.{_≡_};
 ghost use Prim.Native.Nat.{_≤_};
-ghost use Rattle.group.specs.Layout.{tableOctets, recordsIn, counterIn, stateAt, flagsAt, bit, flagsOf, recordOf, put, ranked};
+ghost use Rattle.group.specs.Layout.{tableOctets, recordsIn, counterIn, stateAt, flagsAt, bit, flagsOf, recordOf, put, putCounter, putRank};
 
 const COUNTER_OCTETS: usize = 8;
+
 const RECORD_OCTETS: usize = 10;
 
 // The octets of a table of so many circuits. A circuit's record begins where the table of those before it would end.
@@ -85,10 +86,14 @@ pub fn put(table: &mut [u8], cic: Cic, rec: Record)
     words::put_octet(table, at, 1, flags_of(rec));
 }
 
-// Sets the counter, and the circuit takes it as its rank.
-pub fn put_rank(table: &mut [u8], cic: Cic, count: u64)
-    ensures { λ r. ⌜ now (table .exit) ≡ ranked (now (table .entry)) (cic .0) count ⌝ }
+pub fn put_counter(table: &mut [u8], count: u64)
+    ensures { λ r. ⌜ now (table .exit) ≡ putCounter (now (table .entry)) count ⌝ }
 {
     words::put_word(table, 0, count);
-    words::put_word(table, table_octets(cic.0) + 2, count);
+}
+
+pub fn put_rank(table: &mut [u8], cic: Cic, rank: u64)
+    ensures { λ r. ⌜ now (table .exit) ≡ putRank (now (table .entry)) (cic .0) rank ⌝ }
+{
+    words::put_word(table, table_octets(cic.0) + 2, rank);
 }

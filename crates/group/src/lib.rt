@@ -75,6 +75,7 @@ fn free(table: &mut [u8], cic: Cic, o: Outcome) -> Answer
     }
     let after = o.after;
     layout::put(table, cic, after);
+    layout::put_counter(table, count + 1);
     layout::put_rank(table, cic, count + 1);
     taken(o)
 }

@@ -129,7 +129,7 @@ fn last_line(p: Progress, buffer: &[u8], room: &mut [u8]) {
 }
 
 fn main() {
-    let mut table = [0u8; 8192];
+    let mut table = [0u8; 40968];
     let mut buffer = [0u8; 65536];
     let mut room = [0u8; 65536];
     let p = turns(&mut table, &mut buffer, &mut room);

@@ -90,7 +90,7 @@ fn ends_as(p: Place, whole: &[u8], want: &[u8], text: &mut [u8]) -> bool {
 }
 
 fn right(size: usize, whole: &[u8], want: &[u8]) -> bool {
-    let mut table = [0u8; 8192];
+    let mut table = [0u8; 40968];
     let mut text = [0u8; 1024];
     let p = turns(size, whole, &mut table, &mut text);
     ends_as(p, whole, want, &mut text)

@@ -8,7 +8,8 @@ use Rattle.text.specs.Lines.{field, stateAndFlags, headings, line, groupLine, e
 use Rattle.codes.specs.Numbers.{eventOf}
 use Rattle.step.specs.Step.{step, stepFound}
 use Rattle.group.specs.Table.{onCircuit, stepIn}
-use Rattle.group.specs.Layout.{recordsIn, stateAt, flagsAt, flagsOf, recordOf, put}
+use Rattle.words.specs.Words as words
+use Rattle.group.specs.Layout.{recordsIn, counterIn, stateAt, flagsAt, flagsOf, recordOf, put, putCounter, putRank}
 use Rattle.circuit.specs.Rows.{first}
 use Rattle.records.specs.Records.{octetsOf, recorded, item}
 use Rattle.trace.specs.Replay.{happens, textAt, linesWithin, lines, replay}
@@ -37,5 +38,5 @@ wholeText =
     []
 
 pub theWholeCase : replay wholeCase ≡ wholeText
-unfolding first recordsIn stateAt flagsAt flagsOf recordOf put replay lines linesWithin textAt item recorded octetsOf happens stepIn onCircuit stepFound step eventOf line groupLine endLine cutLine field stateAndFlags headings decimal digitsWithin
+unfolding first words.number words.put recordsIn counterIn stateAt flagsAt flagsOf recordOf put putCounter putRank replay lines linesWithin textAt item recorded octetsOf happens stepIn onCircuit stepFound step eventOf line groupLine endLine cutLine field stateAndFlags headings decimal digitsWithin
 theWholeCase = refl

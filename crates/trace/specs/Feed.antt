@@ -5,7 +5,7 @@ use mathlib.Core.List.{List, [], _++_}
 use Prim.Native.Nat.{ℕ, zero, suc, _+_, _-_, _*_, min}
 use lib.Dec.{eqb, leb, ltb}
 use lib.ListN.{length, take, drop}
-use Rattle.group.specs.Layout.{recordOctets}
+use Rattle.group.specs.Layout as grouped
 use Rattle.text.specs.Lines.{groupLine, endLine, cutLine, badGroupLine}
 use Rattle.text.specs.Writing.{lineRoom}
 use Rattle.records.specs.declared.Recorded.{Recorded}
@@ -111,7 +111,7 @@ isOver (Cut next) = true
 abbrev pub tableOctets : Stage → ℕ
 tableOctets Start = 0
 tableOctets Bad = 0
-tableOctets (Runs r) = recordOctets * min (r .circuits) 4096
+tableOctets (Runs r) = grouped.tableOctets (min (r .circuits) 4096)
 tableOctets (Cut next) = 0
 
 -- the last line, where `rest` is what was not taken of the whole trace

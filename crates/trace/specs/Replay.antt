@@ -8,7 +8,6 @@ use Rattle.codes.specs.Numbers.{eventOf}
 use Rattle.codes.specs.Headings.{firstHeading, secondHeading}
 use Rattle.group.specs.declared.Answer.{Answer}
 use Rattle.group.specs.Layout as grouped
-use Rattle.group.specs.Layout.{recordOctets}
 use Rattle.group.specs.Table.{Step, stepIn}
 use Rattle.text.specs.declared.Line.{Line}
 use Rattle.text.specs.Lines.{line, groupLine, endLine, cutLine, badGroupLine}
@@ -64,7 +63,7 @@ opened s = record { own = record { 0 = ownIn s }; far = record { 0 = farIn s }; 
 
 -- all records idle
 abbrev pub idle : ℕ → List ℕ
-idle circuits = grouped.idle (recordOctets * circuits)
+idle circuits = grouped.idle (grouped.tableOctets circuits)
 
 -- the whole text
 unfoldable pub replay : List ℕ → List ℕ

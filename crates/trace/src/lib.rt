@@ -1,5 +1,5 @@
 // A trace and its replay (document 01, "The trace and its replay"): the record at a place, and a replay that is fed the trace in parts and
-// writes its lines into lent room. The table holds the group's records, two octets a circuit, all zero before the first event.
+// writes its lines into lent room. The table is the group's, all zero before the first event.
 use circuit::Cic;
 use circuit::PointCode;
 use group::Answer;
@@ -281,15 +281,15 @@ fn at_most(n: usize, most: usize) -> usize
     if n < most { n } else { most }
 }
 
-// The octets of the table that the group needs: at most 8,192.
+// The octets of the table that the group needs: at most 40,968.
 pub fn table_octets(stage: Stage) -> usize
     ensures { λ r. ⌜ r ≡ tableOctets stage ⌝ }
-    ensures { λ r. ⌜ r ≤ 8192 ⌝ }
+    ensures { λ r. ⌜ r ≤ 40968 ⌝ }
 {
     match stage {
         Stage::Start => 0,
         Stage::Bad => 0,
-        Stage::Runs(r) => group::RECORD_OCTETS * at_most(r.circuits as usize, 4096),
+        Stage::Runs(r) => group::table_octets(at_most(r.circuits as usize, 4096) as u32),
         Stage::Cut(_) => 0,
     }
 }

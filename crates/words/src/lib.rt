@@ -34,7 +34,16 @@ fn wide(x: u8) -> u64
 fn number(a: u8, b: u8, c: u8, d: u8, e: u8, f: u8, g: u8, h: u8) -> u64
     ensures { λ r. ⌜ r ≡ a + 256 * (b + 256 * (c + 256 * (d + 256 * (e + 256 * (f + 256 * (g + 256 * h)))))) ⌝ }
 {
-    wide(a) + 256 * (wide(b) + 256 * (wide(c) + 256 * (wide(d) + 256 * (wide(e) + 256 * (wide(f) + 256 * (wide(g) + 256 * wide(h)))))))
+    wide(a)
+        + 256
+            * (wide(b)
+                + 256
+                    * (wide(c)
+                        + 256
+                            * (wide(d)
+                                + 256
+                                    * (wide(e)
+                                        + 256 * (wide(f) + 256 * (wide(g) + 256 * wide(h)))))))
 }
 
 fn low(v: u64) -> u8

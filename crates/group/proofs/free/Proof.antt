@@ -24,6 +24,12 @@ returns c =
 put-requires : tie.Need-put-requires
 put-requires c κs = search needs
 
+add-put-counter : tie.Need-add-put-counter
+add-put-counter c = search needs
+
+put-counter-requires : tie.Need-put-counter-requires
+put-counter-requires c κs = search needs
+
 add-put-rank : tie.Need-add-put-rank
 add-put-rank c = search needs
 
@@ -38,11 +44,12 @@ same-length-2 c = search needs
 
 returns-2 : tie.Need-returns-2
 returns-2 c =
-    let r = c .before .before .before in let p = r .before .before .before .before in let n = p .before .before .before .before in let a = n .before .before .before .args in
+    let r = c .before .before .before in let k = r .before .before .before .before in let p = k .before .before .before .before in
+    let n = p .before .before .before .before in let a = n .before .before .before .args in
     met
     (releases (now (a .table)) (a .cic .0) (a .o) (rw (n .counter-in .ensures) at (p .before .before .before .if1 .left)))
     (c .taken .ensures)
-    (rw (r .put-rank .ensures, p .put .ensures, n .counter-in .ensures))
+    (rw (r .put-rank .ensures, k .put-counter .ensures, p .put .ensures, n .counter-in .ensures))
 
 pub free-spec : {M : Type 1} → statement M
 free-spec =
@@ -53,6 +60,8 @@ free-spec =
     same-length
     returns
     put-requires
+    add-put-counter
+    put-counter-requires
     add-put-rank
     put-rank-requires
     taken-requires

@@ -20,8 +20,11 @@ cast-at-most c = search needs
 at-most-requires : tie.Need-at-most-requires
 at-most-requires c κs = search needs
 
-mul-result : tie.Need-mul-result
-mul-result c = search needs
+cast-table-octets : tie.Need-cast-table-octets
+cast-table-octets c = search needs
+
+table-octets-requires : tie.Need-table-octets-requires
+table-octets-requires c κs = search needs
 
 enum-told-3 : tie.Need-enum-told-3
 enum-told-3 c = search needs
@@ -33,7 +36,9 @@ returns-2 : tie.Need-returns-2
 returns-2 c = search needs
 
 returns-3 : tie.Need-returns-3
-returns-3 c = (rw (c .before .before .before .stage .given .1, c .at-most .ensures .0), omega (arith, c .at-most .ensures .1))
+returns-3 c =
+    let m = c .before .at-most .ensures in
+    (rw (c .before .before .before .before .stage .given .1, c .table-octets .ensures .0, m .0), omega (arith, c .table-octets .ensures .0, m .1))
 
 returns-4 : tie.Need-returns-4
 returns-4 c = search needs
@@ -47,7 +52,8 @@ table-octets-spec =
     enum-known-stage
     cast-at-most
     at-most-requires
-    mul-result
+    cast-table-octets
+    table-octets-requires
     enum-told-3
     returns
     returns-2

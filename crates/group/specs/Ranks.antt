@@ -1,0 +1,212 @@
+-- Release ranks (document 02, T-01): what every event does to the counter and the ranks, and that ranks tell which circuit was freed later.
+-- Assumes nothing.
+use mathlib.Core.Path.{_≡_, refl, sym, _∙_}
+use mathlib.Core.Bool.{Bool, true, false, not, cond, _&&_}
+use mathlib.Core.List.{List}
+use Prim.Native.Nat.{ℕ, _+_, _<_, _≤_}
+use native.Mathlib.Omega.{arith}
+use lib.Dec.{T, eqb, leb, ltb, leb→le}
+use lib.ListN.{length}
+use borrow.Author.Tests.{eqb-true, eqb-false, eq-eqb}
+use Rattle.circuit.specs.declared.Record.{Record}
+use Rattle.circuit.specs.Records.{valid}
+use Rattle.circuit.specs.Groups.{badGroup, controls}
+use Rattle.codes.specs.declared.Found.{Found}
+use Rattle.codes.specs.declared.Found.the-variants.{Is, Missing}
+use Rattle.step.specs.Refusals.{refusal, refusalFound}
+use Rattle.step.specs.Frees.{freesFound}
+use Rattle.words.specs.Words.{largest}
+use Rattle.group.specs.Layout.{recordsIn, counterIn, stateAt, flagsAt, rankAt, recordAt, put, ranked, idle, idleRank, idleCounter, putState, putLength, putKeepsCounter, putKeepsRank, rankedState, rankedCounter, rankedRank, otherRank}
+use Rattle.group.specs.Table.{stepIn}
+use Rattle.group.specs.Laws.{byCases, keepsLength, refusals}
+use Rattle.group.specs.Valid.{low}
+
+-- the circuit went from another state to idle
+abbrev pub idled : (before after : List ℕ) → (cic : ℕ) → Bool
+idled before after cic = not (eqb (stateAt before cic) 0) && eqb (stateAt after cic) 0
+
+-- then the counter went up by one and the record took it; nothing else changed a rank
+pub record Counted (before after : List ℕ) (cic : ℕ) : Type 0 where
+  pub counter : counterIn after ≡ cond (idled before after cic) (counterIn before + 1) (counterIn before)
+  pub ranks : (i : ℕ) → rankAt after i ≡ cond (idled before after cic && eqb i cic) (counterIn before + 1) (rankAt before i)
+
+made : (before after : List ℕ) (cic : ℕ) (b : Bool) → idled before after cic ≡ b
+    → counterIn after ≡ cond b (counterIn before + 1) (counterIn before)
+    → ((i : ℕ) → rankAt after i ≡ cond (b && eqb i cic) (counterIn before + 1) (rankAt before i))
+    → Counted before after cic
+made before after cic b e c r = record { counter = rw e c; ranks = λ i. rw e (r i) }
+
+untouched : (table : List ℕ) (cic : ℕ) → Counted table table cic
+untouched table cic = made table table cic false (go (eqb (stateAt table cic) 0)) refl (λ i. refl)
+  where
+    go : (b : Bool) → (not b && b) ≡ false
+    go true = refl
+    go false = refl
+
+-- a record put that frees nothing, and one that frees
+module _ (table : List ℕ) (cic : ℕ) (r : Record) (h : cic < recordsIn (length table)) where
+  storedCounts : (not (eqb (stateAt table cic) 0) && eqb (r .state) 0) ≡ false → Counted table (put table cic r) cic
+  storedCounts f = made table (put table cic r) cic false (rw (putState table cic r h) f) (putKeepsCounter table cic r) (λ i. putKeepsRank table cic i r)
+
+  releasedCounts : (not (eqb (stateAt table cic) 0) && eqb (r .state) 0) ≡ true → counterIn table < largest → Counted table (ranked (put table cic r) cic (counterIn table + 1)) cic
+  releasedCounts f k =
+      made table (ranked (put table cic r) cic n) cic true
+      (rw (rankedState (put table cic r) cic cic n, putState table cic r h) f)
+      (rankedCounter (put table cic r) cic n inPut (omega arith))
+      (λ i. taken i (eqb i cic) refl)
+    where
+      n : ℕ
+      n = counterIn table + 1
+
+      inPut : cic < recordsIn (length (put table cic r))
+      inPut = rw (putLength table cic r) h
+
+      taken : (i : ℕ) (b : Bool) → eqb i cic ≡ b → rankAt (ranked (put table cic r) cic n) i ≡ cond b n (rankAt table i)
+      taken i true e = rw (eqb-true i cic e) (rankedRank (put table cic r) cic n inPut (omega arith))
+      taken i false e = otherRank (put table cic r) cic i n (eqb-false i cic e) ∙ putKeepsRank table cic i r
+
+-- every event on every table
+pub counted : (own far : ℕ) (table : List ℕ) (cic : ℕ) (event : Found) → Counted table (stepIn own far table cic event .table) cic
+counted own far table cic event =
+    byCases own far table cic event (λ s. Counted table (s .table) cic)
+    (untouched table cic) (untouched table cic) (λ n h. untouched table cic)
+    (λ h l a f. storedCounts table cic _ h f)
+    (λ h l a f k. releasedCounts table cic _ h f k)
+
+-- the counter never falls
+rises : (b : Bool) (n m : ℕ) → m ≡ cond b (n + 1) n → n ≤ m
+rises true n m e = omega arith
+rises false n m e = omega arith
+
+-- ranks that are at most the counter
+abbrev pub Ranked : List ℕ → Type 0
+Ranked table = (i : ℕ) → i < recordsIn (length table) → rankAt table i ≤ counterIn table
+
+-- circuits freed since the counter stood at n have ranks that no other circuit has
+abbrev pub Apart : ℕ → List ℕ → Type 0
+Apart n table = (i j : ℕ) → i < recordsIn (length table) → j < recordsIn (length table) → (i ≡ j → ⊥) → n < rankAt table i → rankAt table i ≡ rankAt table j → ⊥
+
+-- one event; both tables have as many records
+module _ {before after : List ℕ} {cic : ℕ} (c : Counted before after cic) (same : length after ≡ length before) where
+  pub counterRises : counterIn before ≤ counterIn after
+  counterRises = rises (idled before after cic) (counterIn before) (counterIn after) (c .counter)
+
+  pub rankRises : Ranked before → (i : ℕ) → i < recordsIn (length before) → rankAt before i ≤ rankAt after i
+  rankRises low i h = go (idled before after cic && eqb i cic) (c .ranks i)
+    where
+      go : (b : Bool) → rankAt after i ≡ cond b (counterIn before + 1) (rankAt before i) → rankAt before i ≤ rankAt after i
+      go true e = omega (arith, low i h)
+      go false e = omega arith
+
+  pub staysRanked : Ranked before → Ranked after
+  staysRanked low i h = go (idled before after cic) (eqb i cic) (c .counter) (c .ranks i)
+    where
+      was : rankAt before i ≤ counterIn before
+      was = low i (rw same at h)
+
+      go : (a b : Bool) → counterIn after ≡ cond a (counterIn before + 1) (counterIn before) → rankAt after i ≡ cond (a && b) (counterIn before + 1) (rankAt before i) → rankAt after i ≤ counterIn after
+      go true true e f = omega arith
+      go true false e f = omega (arith, was)
+      go false b e f = omega (arith, was)
+
+  pub staysApart : (n : ℕ) → Ranked before → Apart n before → Apart n after
+  staysApart n low apart i j hi hj other above e = go (idled before after cic) (eqb i cic) (eqb j cic) refl refl (c .ranks i) (c .ranks j)
+    where
+      go : (a b d : Bool) → eqb i cic ≡ b → eqb j cic ≡ d → rankAt after i ≡ cond (a && b) (counterIn before + 1) (rankAt before i) → rankAt after j ≡ cond (a && d) (counterIn before + 1) (rankAt before j) → ⊥
+      go true true true p q f g = other (eqb-true i cic p ∙ sym (eqb-true j cic q))
+      go true true false p q f g = omega (arith, low j (rw same at hj))
+      go true false true p q f g = omega (arith, low i (rw same at hi))
+      go true false false p q f g = apart i j (rw same at hi) (rw same at hj) other (omega arith) (sym f ∙ e ∙ g)
+      go false b d p q f g = apart i j (rw same at hi) (rw same at hj) other (omega arith) (sym f ∙ e ∙ g)
+
+-- a table that a group's events lead to from another
+pub data Follows (own far : ℕ) (first : List ℕ) : List ℕ → Type 0 where
+  start : Follows own far first first
+  next : {table : List ℕ} → Follows own far first table → (cic : ℕ) (event : Found) → Follows own far first (stepIn own far table cic event .table)
+
+-- the counter never falls, whatever the ranks
+pub neverFalls : {own far : ℕ} {first last : List ℕ} → Follows own far first last → counterIn first ≤ counterIn last
+neverFalls start = omega arith
+neverFalls {own} {far} (next {table} f cic event) =
+    omega (arith, neverFalls f, counterRises (counted own far table cic event) (keepsLength own far table cic event))
+
+-- from a table whose ranks are at most its counter: this stays so, and what is freed is told apart
+pub record Kept (first last : List ℕ) : Type 0 where
+  pub ranked : Ranked last
+  pub apart : Apart (counterIn first) last
+
+pub kept : {own far : ℕ} {first last : List ℕ} → Ranked first → Follows own far first last → Kept first last
+kept low start = record { ranked = low; apart = λ i j hi hj other above e. omega (arith, low i hi) }
+kept {own} {far} {first} low (next {table} f cic event) =
+    let k : Kept first table = kept low f in
+    let c : Counted table (stepIn own far table cic event .table) cic = counted own far table cic event in
+    let same : length (stepIn own far table cic event .table) ≡ length table = keepsLength own far table cic event in
+    record { ranked = staysRanked c same (k .ranked); apart = staysApart c same (counterIn first) (k .ranked) (k .apart) }
+
+-- what an event that frees leaves
+freedRank : {before after : List ℕ} {cic : ℕ} → Counted before after cic → idled before after cic ≡ true → rankAt after cic ≡ counterIn before + 1
+freedRank {before} {after} {cic} c f = rw (f, eq-eqb cic cic refl) at (c .ranks cic)
+
+freedCounter : {before after : List ℕ} {cic : ℕ} → Counted before after cic → idled before after cic ≡ true → counterIn after ≡ counterIn before + 1
+freedCounter c f = rw f at (c .counter)
+
+-- a circuit that is freed later has the higher rank: of two events with any others between them, the first frees i and the second j
+pub later : (own far : ℕ) (first second : List ℕ) (i j : ℕ) (e f : Found)
+    → idled first (stepIn own far first i e .table) i ≡ true
+    → Follows own far (stepIn own far first i e .table) second
+    → idled second (stepIn own far second j f .table) j ≡ true
+    → rankAt (stepIn own far first i e .table) i < rankAt (stepIn own far second j f .table) j
+later own far first second i j e f p between q =
+    omega (arith, freedRank (counted own far first i e) p, freedCounter (counted own far first i e) p, neverFalls between, freedRank (counted own far second j f) q)
+
+-- every table that started at zeros
+pub idleRanked : (octets : ℕ) → Ranked (idle octets)
+idleRanked octets i h = rw (idleRank octets i, idleCounter octets) (omega arith)
+
+-- 13 is given at the largest value only
+lowFound : (r : Record) (f : Found) → refusalFound r f ≤ 12
+lowFound r (Is e) = go (valid r)
+  where
+    go : (b : Bool) → cond b (refusal r e) 12 ≤ 12
+    go true = omega (arith, low r e)
+    go false = omega arith
+lowFound r Missing = go (valid r)
+  where
+    go : (b : Bool) → cond b 3 12 ≤ 12
+    go true = omega arith
+    go false = omega arith
+
+pub spentAt : (own far : ℕ) (table : List ℕ) (cic : ℕ) (event : Found) → stepIn own far table cic event .answer .refusal ≡ 13 → largest ≤ counterIn table
+spentAt own far table cic event e =
+    leb→le largest (counterIn table)
+    (go (badGroup own far (recordsIn (length table))) (leb (recordsIn (length table)) cic) (ltb 15 (flagsAt table cic)) (eqb (refusalFound (recordAt table cic) event) 0)
+    (freesFound (controls own far cic) (stateAt table cic) event) (leb largest (counterIn table)) (refusalFound (recordAt table cic) event)
+    (lowFound (recordAt table cic) event) (sym (refusals own far table cic event) ∙ e))
+  where
+    go : (a b c d f spent : Bool) (n : ℕ) → n ≤ 12 → cond a 1 (cond b 2 (cond c 12 (cond d (cond (f && spent) 13 0) n))) ≡ 13 → T spent
+    go true b c d f spent n h k = absurd (omega arith)
+    go false true c d f spent n h k = absurd (omega arith)
+    go false false true d f spent n h k = absurd (omega arith)
+    go false false false false f spent n h k = absurd (omega arith)
+    go false false false true false spent n h k = absurd (omega arith)
+    go false false false true true true n h k = tt
+    go false false false true true false n h k = absurd (omega arith)
+
+-- so a group that starts idle answers 13 at none of its first 2^64 - 1 events
+abbrev pub events : {own far : ℕ} {first last : List ℕ} → Follows own far first last → ℕ
+events start = 0
+events (next f cic event) = events f + 1
+
+once : (b : Bool) (n m k : ℕ) → m ≡ cond b (n + 1) n → n ≤ k → m ≤ k + 1
+once true n m k e h = omega arith
+once false n m k e h = omega arith
+
+atMostOneEach : {own far : ℕ} {first last : List ℕ} (f : Follows own far first last) → counterIn last ≤ counterIn first + events f
+atMostOneEach start = omega arith
+atMostOneEach {own} {far} {first} (next {table} f cic event) =
+    omega (arith, once (idled table (stepIn own far table cic event .table) cic) (counterIn table) (counterIn (stepIn own far table cic event .table)) (counterIn first + events f) (counted own far table cic event .counter) (atMostOneEach f))
+
+pub never13 : {own far : ℕ} {table : List ℕ} (octets : ℕ) (f : Follows own far (idle octets) table) → events f < largest
+    → (cic : ℕ) (event : Found) → stepIn own far table cic event .answer .refusal ≡ 13 → ⊥
+never13 {own} {far} {table} octets f few cic event e =
+    omega (arith, spentAt own far table cic event e, atMostOneEach f, idleCounter octets)
