@@ -119,7 +119,7 @@ static const struct rank_case {
     {{"freed from a seizure that yields", 1, 1, 0, S, 0x46, 0, 0, 0, 0, 6, 0x17, 0}, {9, 4, 10, 10}},
     {{"a carry into the second octet", 0, 11, 0, S, 0x46, 0, 0, 0, 0, 5, 0x17, 0}, {255, 0, 256, 256}},
     {{"a carry beyond 32 bits", 0, 12, 0, S, 0x17, 0, 0, 0, 0, 5, 0, 0}, {0xFFFFFFFF, 1, 0x100000000, 0x100000000}},
-    {{"a lent rank above the counter", 0, 6, 0, S, 0x46, 0, 0, 0, 0, 5, 0x17, 0}, {3, FULL, 4, 4}},
+    {{"a lent rank above the counter", 0, 6, 0, S, 0x46, 0, 0, 0, 0, 5, 0x17, 0}, {0, FULL, 1, 1}},
     {{"it stays while nothing is freed", 0, 0, 0, C, 1, 0, 0, 1, 0, 0, 0x11, 0}, {3, FULL, 3, FULL}},
     {{"the last rank there is", 0, 6, 0, S, 0x46, 0, 0, 0, 0, 5, 0x17, 0}, {FULL - 1, 0, FULL, FULL}},
     {{"from idle to idle by CLF", 0, 0, 0, S, 0x46, 0, 0, 0, 0, 0, 0x17, 0}, {3, 2, 3, 2}},
@@ -146,6 +146,7 @@ static const struct rank_case {
     {{"3 comes before 13: detail", 0, 6, 0, S, 0x46, 1, 3, 6, 0, 0, 0, 0}, {FULL, 0, FULL, 0}},
     {{"3 comes before 13: kind", 0, 6, 0, 4, 0x46, 0, 3, 6, 0, 0, 0, 0}, {FULL, 0, FULL, 0}},
     {{"full: a command not allowed is 5", 0, 6, 0, C, 2, 0, 5, 6, 0, 0, 0, 0}, {FULL, 0, FULL, 0}},
+    {{"full: seize in another state is 5", 0, 9, 0, C, 1, 0, 5, 9, 0, 0, 0, 0}, {FULL, 0, FULL, 0}},
     {{"full: seize with far block is 4", 0, 0, 2, C, 1, 0, 4, 0, 2, 0, 0, 0}, {FULL, 0, FULL, 0}},
     {{"full: a timer not for the state is 6", 0, 6, 0, T, 4, 0, 6, 6, 0, 0, 0, 0}, {FULL, 0, FULL, 0}},
 };

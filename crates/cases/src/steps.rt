@@ -103,12 +103,13 @@ fn alike(o: u8) -> u64 {
     0x101010101010101 * wide(o)
 }
 
-// The table before the step: a rank like all that stands beside the circuit, and a counter like it but for its lowest octet.
+// The table before the step. The rank is like all that stands beside the circuit; the counter's octets are alike but for its lowest.
 fn before(f: [u32; 48]) -> Laid {
     let beside = octet(f[4]);
     let rank = alike(beside);
+    let counter = alike(octet(f[4] / 0x100));
     Laid {
-        counter: rank / 256 * 256 + wide(octet(f[4] / 256)),
+        counter: counter / 256 * 256 + wide(octet(f[4] / 0x10000)),
         at: place(f[5]),
         state: octet(f[6]),
         flags: octet(f[7]),
