@@ -90,28 +90,21 @@ pub fn word(xs: &[u8], at: usize) -> u64
     )
 }
 
-fn put_low(xs: &mut [u8], at: usize, v: u64)
-    ensures { λ r. ⌜ now (xs .exit) ≡ put 4 (now (xs .entry)) at v ⌝ }
+// Puts the four lowest octets of a number behind a place.
+fn put_four(xs: &mut [u8], at: usize, behind: u32, v: u64)
+    ensures { λ r. ⌜ now (xs .exit) ≡ put 4 (now (xs .entry)) (at + behind) v ⌝ }
 {
-    put_octet(xs, at, 0, low(v));
-    put_octet(xs, at, 1, low(v / 0x100));
-    put_octet(xs, at, 2, low(v / 0x10000));
-    put_octet(xs, at, 3, low(v / 0x1000000));
-}
-
-fn put_high(xs: &mut [u8], at: usize, v: u64)
-    ensures { λ r. ⌜ now (xs .exit) ≡ put 4 (now (xs .entry)) (at + 4) v ⌝ }
-{
-    put_octet(xs, at, 4, low(v));
-    put_octet(xs, at, 5, low(v / 0x100));
-    put_octet(xs, at, 6, low(v / 0x10000));
-    put_octet(xs, at, 7, low(v / 0x1000000));
+    let k = behind as usize;
+    put_octet(xs, at, k, low(v));
+    put_octet(xs, at, k + 1, low(v / 0x100));
+    put_octet(xs, at, k + 2, low(v / 0x10000));
+    put_octet(xs, at, k + 3, low(v / 0x1000000));
 }
 
 // Puts a word at a place.
 pub fn put_word(xs: &mut [u8], at: usize, v: u64)
     ensures { λ r. ⌜ now (xs .exit) ≡ putWord (now (xs .entry)) at v ⌝ }
 {
-    put_low(xs, at, v);
-    put_high(xs, at, v / 0x100000000);
+    put_four(xs, at, 0, v);
+    put_four(xs, at, 4, v / 0x100000000);
 }
