@@ -208,7 +208,7 @@ static void run_plain_case(stepper step, const struct step_case *c)
 static void run_layout_case(stepper step)
 {
     uint8_t table[28] = {0xFF, 0x01, 0, 0, 0, 0, 0, 0x80, 0, 0, 0, 0, 0, 0, 0, 0, 0, 0, 6, 2, 1, 2, 3, 4, 5, 6, 7, 8};
-    static const uint8_t after[28] = {0, 0x02, 0, 0, 0, 0, 0, 0x80, 0, 0, 0, 0, 0, 0, 0, 0, 0, 0, 0, 2, 0, 0x02, 0, 0, 0, 0, 0, 0x80};
+    static const uint8_t after[28] = {0, 2, 0, 0, 0, 0, 0, 0x80, 0, 0, 0, 0, 0, 0, 0, 0, 0, 0, 0, 2, 0, 2, 0, 0, 0, 0, 0, 0x80};
     case_now = "the layout of a table of two";
     expect("the rank before", tup_record_rank(table, 1), 0x0807060504030201);
     expect("the counter before", tup_counter(table), 0x80000000000001FF);

@@ -27,7 +27,8 @@ static const uint32_t codes[2] = {2, 1};
 
 static struct { unsigned end; uint32_t circuit, kind, code, detail; } now;
 static struct {
-    unsigned long quiet, apart[STATES][STATES], marks[2][2], indications[11], headings[256], events, refused, lost, longest, set_anew;
+    unsigned long quiet, apart[STATES][STATES], marks[2][2], indications[11], headings[256], events, refused, lost, longest;
+    unsigned long set_anew;
 } seen;
 
 static void describe(void)
