@@ -102,7 +102,7 @@ module _ {before after : List ℕ} {cic : ℕ} (c : Counted before after cic) (s
   staysRanked low i h = go (idled before after cic) (eqb i cic) (c .counter) (c .ranks i)
     where
       was : rankAt before i ≤ counterIn before
-      was = low i (rw same at h)
+      was = omega (arith, low i (rw same at h))
 
       go : (a b : Bool) → counterIn after ≡ cond a (counterIn before + 1) (counterIn before) → rankAt after i ≡ cond (a && b) (counterIn before + 1) (rankAt before i) → rankAt after i ≤ counterIn after
       go true true e f = omega arith
