@@ -51,6 +51,14 @@ eightPut xs at v =
     let d₄ : v / 0x1000000 / 256 ≡ v / 0x100000000 = omega arith in
     rw (d₂, d₃, d₄) (simp unary-clauses)
 
+pub octetsPut : (xs : List ℕ) (at v : ℕ)
+    → putWord xs at v ≡ set (set (set (set (set (set (set (set xs at (v % 256)) (at + 1) (v / 0x100 % 256)) (at + 2) (v / 0x10000 % 256)) (at + 3) (v / 0x1000000 % 256)) (at + 4) (v / 0x100000000 % 256)) (at + 5) (v / 0x10000000000 % 256)) (at + 6) (v / 0x1000000000000 % 256)) (at + 7) (v / 0x100000000000000 % 256)
+octetsPut xs at v =
+    let d₅ : v / 0x100000000 / 0x100 ≡ v / 0x10000000000 = omega arith in
+    let d₆ : v / 0x100000000 / 0x10000 ≡ v / 0x1000000000000 = omega arith in
+    let d₇ : v / 0x100000000 / 0x1000000 ≡ v / 0x100000000000000 = omega arith in
+    rw (eightPut xs at v, fourPut (put 4 xs at v) (at + 4) (v / 0x100000000), fourPut xs at v, d₅, d₆, d₇) (simp unary-clauses)
+
 pub putLength : (n : ℕ) (xs : List ℕ) (at v : ℕ) → length (put n xs at v) ≡ length xs
 unfolding put
 putLength zero xs at v = refl

@@ -1,7 +1,7 @@
 // Octets and words of eight octets, lowest first, in a lent slice: beyond its end there are zeros, which stay.
 ghost use mathlib.Core.Path.{_≡_};
 ghost use Prim.Native.Nat.{_+_, _*_, _%_, _<_};
-ghost use lib.ListN.{getD, set};
+ghost use lib.ListN.{length, getD, set};
 ghost use Rattle.words.specs.Words.{word, put, putWord};
 
 // The octet k behind a place.
@@ -90,6 +90,21 @@ pub fn word(xs: &[u8], at: usize) -> u64
     )
 }
 
+// Puts a number where its eight octets are all there: stores that follow each other become one, which a read soon after does not wait for.
+fn put_eight(xs: &mut [u8], at: usize, v: u64)
+    requires { ⌜ at + 7 < length (now xs) ⌝ }
+    ensures { λ r. ⌜ now (xs .exit) ≡ putWord (now (xs .entry)) at v ⌝ }
+{
+    xs[at] = low(v);
+    xs[at + 1] = low(v / 0x100);
+    xs[at + 2] = low(v / 0x10000);
+    xs[at + 3] = low(v / 0x1000000);
+    xs[at + 4] = low(v / 0x100000000);
+    xs[at + 5] = low(v / 0x10000000000);
+    xs[at + 6] = low(v / 0x1000000000000);
+    xs[at + 7] = low(v / 0x100000000000000);
+}
+
 // Puts the four lowest octets of a number behind a place.
 fn put_four(xs: &mut [u8], at: usize, behind: u32, v: u64)
     ensures { λ r. ⌜ now (xs .exit) ≡ put 4 (now (xs .entry)) (at + behind) v ⌝ }
@@ -101,10 +116,23 @@ fn put_four(xs: &mut [u8], at: usize, behind: u32, v: u64)
     put_octet(xs, at, k + 3, low(v / 0x1000000));
 }
 
-// Puts a word at a place.
-pub fn put_word(xs: &mut [u8], at: usize, v: u64)
+// Puts a word whose octets may not all be there.
+fn put_short_word(xs: &mut [u8], at: usize, v: u64)
     ensures { λ r. ⌜ now (xs .exit) ≡ putWord (now (xs .entry)) at v ⌝ }
 {
     put_four(xs, at, 0, v);
     put_four(xs, at, 4, v / 0x100000000);
+}
+
+// Puts a word at a place.
+pub fn put_word(xs: &mut [u8], at: usize, v: u64)
+    ensures { λ r. ⌜ now (xs .exit) ≡ putWord (now (xs .entry)) at v ⌝ }
+{
+    if xs.len() <= at {
+        return put_short_word(xs, at, v);
+    }
+    if xs.len() - at < 8 {
+        return put_short_word(xs, at, v);
+    }
+    put_eight(xs, at, v)
 }
