@@ -20,8 +20,7 @@ use Rattle.step.specs.Step.{stepFound}
 use Rattle.group.specs.Layout.{recordsIn, stateAt, flagsAt, recordOf, recordAt, idle, idleState, idleFlags}
 use Rattle.group.specs.Table.{Step, stepIn}
 use Rattle.group.specs.Laws.{Carries, Same, isStep, others, keepsLength}
-use Rattle.group.specs.Valid as grouped
-use Rattle.group.specs.Valid.{ValidAt, ValidTable, staysValid, reachedValid}
+use Rattle.group.specs.Valid.{ValidAt, ValidTable, staysValid, idleValid}
 use Rattle.ends.specs.Ends as ends
 use Rattle.ends.proofs.Claim.{twoEndsAgree}
 use Rattle.exchanges.specs.Tables.{Exchange, endAt, Both, acted, arrival, given, elsewhere, Happening, Happening.arrives, Happening.host, Happening.beside, turn, arrivalRefusal, refusal, Reached, Reached.start, Reached.atFirst, Reached.atSecond, Claim}
@@ -131,7 +130,7 @@ idleLength : (octets : ℕ) → length (idle octets) ≡ octets
 idleLength octets = length-replicate octets 0
 
 idleGood : (own far cic octets : ℕ) → badGroup own far (recordsIn octets) ≡ false → cic < recordsIn octets → Good own far cic (idle octets)
-idleGood own far cic octets good h = record { group = rw (idleLength octets) good; has = rw (idleLength octets) h; valid = reachedValid {own = own} {far = far} (grouped.Reached.start octets) }
+idleGood own far cic octets good h = record { group = rw (idleLength octets) good; has = rw (idleLength octets) h; valid = idleValid octets }
 
 idleEnd : (cic octets : ℕ) → endAt cic (record { table = idle octets; coming = [] }) ≡ ends.idle
 unfolding recordOf

@@ -19,6 +19,7 @@ use Rattle.words.specs.Words.{largest}
 use Rattle.group.specs.Layout.{recordsIn, counterIn, stateAt, flagsAt, rankAt, recordAt, put, ranked, idle, idleRank, idleCounter, putState, putLength, putKeepsCounter, putKeepsRank, rankedState, rankedCounter, rankedRank, otherRank}
 use Rattle.group.specs.Table.{stepIn}
 use Rattle.group.specs.Laws.{byCases, keepsLength, refusals}
+use Rattle.group.specs.Runs.{Follows, Follows.start, Follows.next, events}
 use Rattle.group.specs.Valid.{low}
 
 -- the circuit went from another state to idle
@@ -119,29 +120,38 @@ module _ {before after : List ℕ} {cic : ℕ} (c : Counted before after cic) (s
       go true false false p q f g = apart i j (rw same at hi) (rw same at hj) other (omega arith) (sym f ∙ e ∙ g)
       go false b d p q f g = apart i j (rw same at hi) (rw same at hj) other (omega arith) (sym f ∙ e ∙ g)
 
--- a table that a group's events lead to from another
-pub data Follows (own far : ℕ) (first : List ℕ) : List ℕ → Type 0 where
-  start : Follows own far first first
-  next : {table : List ℕ} → Follows own far first table → (cic : ℕ) (event : Found) → Follows own far first (stepIn own far table cic event .table)
-
 -- the counter never falls, whatever the ranks
 pub neverFalls : {own far : ℕ} {first last : List ℕ} → Follows own far first last → counterIn first ≤ counterIn last
 neverFalls start = omega arith
 neverFalls {own} {far} (next {table} f cic event) =
     omega (arith, neverFalls f, counterRises (counted own far table cic event) (keepsLength own far table cic event))
 
--- from a table whose ranks are at most its counter: this stays so, and what is freed is told apart
+-- from a table whose ranks are at most its counter: this stays so, no rank falls, and what is freed is told apart
 pub record Kept (first last : List ℕ) : Type 0 where
+  pub records : length last ≡ length first
   pub ranked : Ranked last
+  pub rises : (i : ℕ) → i < recordsIn (length first) → rankAt first i ≤ rankAt last i
   pub apart : Apart (counterIn first) last
 
 pub kept : {own far : ℕ} {first last : List ℕ} → Ranked first → Follows own far first last → Kept first last
-kept low start = record { ranked = low; apart = λ i j hi hj other above e. omega (arith, low i hi) }
+kept low start = record { records = refl; ranked = low; rises = λ i h. omega arith; apart = λ i j hi hj other above e. omega (arith, low i hi) }
 kept {own} {far} {first} low (next {table} f cic event) =
     let k : Kept first table = kept low f in
     let c : Counted table (stepIn own far table cic event .table) cic = counted own far table cic event in
     let same : length (stepIn own far table cic event .table) ≡ length table = keepsLength own far table cic event in
-    record { ranked = staysRanked c same (k .ranked); apart = staysApart c same (counterIn first) (k .ranked) (k .apart) }
+    record {
+      records = same ∙ k .records;
+      ranked = staysRanked c same (k .ranked);
+      rises = λ i h. omega (arith, k .rises i h, rankRises c same (k .ranked) i (rw (k .records) h));
+      apart = staysApart c same (counterIn first) (k .ranked) (k .apart);
+    }
+
+-- every table that started at zeros
+idleRanked : (octets : ℕ) → Ranked (idle octets)
+idleRanked octets i h = rw (idleRank octets i, idleCounter octets) (omega arith)
+
+pub fromZeros : {own far : ℕ} {table : List ℕ} (octets : ℕ) → Follows own far (idle octets) table → Kept (idle octets) table
+fromZeros octets f = kept (idleRanked octets) f
 
 -- what an event that frees leaves
 freedRank : {before after : List ℕ} {cic : ℕ} → Counted before after cic → idled before after cic ≡ true → rankAt after cic ≡ counterIn before + 1
@@ -158,10 +168,6 @@ pub later : (own far : ℕ) (first second : List ℕ) (i j : ℕ) (e f : Found)
     → rankAt (stepIn own far first i e .table) i < rankAt (stepIn own far second j f .table) j
 later own far first second i j e f p between q =
     omega (arith, freedRank (counted own far first i e) p, freedCounter (counted own far first i e) p, neverFalls between, freedRank (counted own far second j f) q)
-
--- every table that started at zeros
-pub idleRanked : (octets : ℕ) → Ranked (idle octets)
-idleRanked octets i h = rw (idleRank octets i, idleCounter octets) (omega arith)
 
 -- 13 is given at the largest value only
 lowFound : (r : Record) (f : Found) → refusalFound r f ≤ 12
@@ -193,10 +199,6 @@ spentAt own far table cic event e =
     go false false false true true false n h k = absurd (omega arith)
 
 -- so a group that starts idle answers 13 at none of its first 2^64 - 1 events
-abbrev pub events : {own far : ℕ} {first last : List ℕ} → Follows own far first last → ℕ
-events start = 0
-events (next f cic event) = events f + 1
-
 once : (b : Bool) (n m k : ℕ) → m ≡ cond b (n + 1) n → n ≤ k → m ≤ k + 1
 once true n m k e h = omega arith
 once false n m k e h = omega arith

@@ -24,6 +24,7 @@ use Rattle.words.specs.Words.{largest}
 use Rattle.group.specs.Layout.{recordsIn, counterIn, stateAt, flagsAt, recordOf, recordAt, put, ranked, idle, idleState, idleFlags, flagsLow, putLength, putFlags, putRecord, otherFlags, otherRecord, rankedLength, rankedFlags, rankedRecord}
 use Rattle.group.specs.Table.{stepIn}
 use Rattle.group.specs.Laws.{outcomeAt, byCases, refusals}
+use Rattle.group.specs.Runs.{Follows, Follows.start, Follows.next}
 
 -- a circuit's octets are a record that document 01 allows
 pub record ValidAt (table : List ℕ) (i : ℕ) : Type 0 where
@@ -32,11 +33,6 @@ pub record ValidAt (table : List ℕ) (i : ℕ) : Type 0 where
 
 abbrev pub ValidTable : List ℕ → Type 0
 ValidTable table = (i : ℕ) → i < recordsIn (length table) → ValidAt table i
-
--- a table that a group's events lead to from an idle one
-pub data Reached (own far : ℕ) : List ℕ → Type 0 where
-  start : (octets : ℕ) → Reached own far (idle octets)
-  next : {table : List ℕ} → Reached own far table → (cic : ℕ) (event : Found) → Reached own far (stepIn own far table cic event .table)
 
 keptFound : (c : Bool) (r : Record) (f : Found) → T (valid r) → T (valid (stepFound c r f .after))
 unfolding stepFound
@@ -132,14 +128,14 @@ module _ (own far : ℕ) (table : List ℕ) (cic : ℕ) (event : Found) (v : Val
       go₁ true h = omega arith
       go₁ false h = go₂ (leb (recordsIn (length table)) cic) refl h
 
-idleValid : (octets : ℕ) → ValidTable (idle octets)
+pub idleValid : (octets : ℕ) → ValidTable (idle octets)
 unfolding recordOf
 idleValid octets i h = record { flags = rw (idleFlags octets i) (omega arith); allowed = rw (idleState octets i, idleFlags octets i) tt }
 
-pub reachedValid : {own far : ℕ} {table : List ℕ} → Reached own far table → ValidTable table
-reachedValid (start octets) = idleValid octets
-reachedValid {own} {far} (next {table} r cic event) = staysValid own far table cic event (reachedValid r)
+pub followsValid : {own far : ℕ} {first last : List ℕ} → ValidTable first → Follows own far first last → ValidTable last
+followsValid v start = v
+followsValid {own} {far} v (next {table} f cic event) = staysValid own far table cic event (followsValid v f)
 
 -- a group that starts idle never answers 12
-pub never12 : {own far : ℕ} {table : List ℕ} → Reached own far table → (cic : ℕ) (event : Found) → stepIn own far table cic event .answer .refusal ≡ 12 → ⊥
-never12 {own} {far} {table} r cic event = not12In own far table cic event (reachedValid r)
+pub never12 : {own far : ℕ} {table : List ℕ} (octets : ℕ) → Follows own far (idle octets) table → (cic : ℕ) (event : Found) → stepIn own far table cic event .answer .refusal ≡ 12 → ⊥
+never12 {own} {far} {table} octets f cic event = not12In own far table cic event (followsValid (idleValid octets) f)
