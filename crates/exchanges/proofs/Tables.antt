@@ -17,7 +17,7 @@ use Rattle.circuit.specs.Groups.{badCode, badGroup, controls}
 use Rattle.codes.specs.declared.Found.{Found}
 use Rattle.codes.specs.declared.Found.the-variants.{Is}
 use Rattle.step.specs.Step.{stepFound}
-use Rattle.group.specs.Layout.{recordsIn, stateAt, flagsAt, recordOf, recordAt, idle, idleState, idleFlags}
+use Rattle.layout.specs.Layout.{recordsIn, stateAt, flagsAt, recordOf, recordAt, idle, idleState, idleFlags}
 use Rattle.group.specs.Table.{Step, stepIn}
 use Rattle.group.specs.Laws.{Carries, Same, isStep, others, keepsLength}
 use Rattle.group.specs.Valid.{ValidAt, ValidTable, staysValid, idleValid}

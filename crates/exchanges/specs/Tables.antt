@@ -11,7 +11,7 @@ use Rattle.circuit.specs.declared.Event.the-variants.{Arrives}
 use Rattle.circuit.specs.Groups.{badGroup}
 use Rattle.codes.specs.declared.Found.{Found}
 use Rattle.codes.specs.declared.Found.the-variants.{Is}
-use Rattle.group.specs.Layout.{recordsIn, recordAt, idle}
+use Rattle.layout.specs.Layout.{recordsIn, recordAt, idle}
 use Rattle.group.specs.Table.{Step, stepIn}
 use Rattle.ends.specs.Ends.{End, inOrder, When, When.anyTime, When.inSilence, When.losingAll, When.never, whenGiven, empty, awaiting, Agree}
 

@@ -13,7 +13,7 @@ use Rattle.words.specs.Words.{largest}
 use Rattle.step.specs.Step.{stepFound}
 use Rattle.step.specs.Frees.{freed}
 use Rattle.group.specs.declared.Answer.{Answer}
-use Rattle.group.specs.Layout.{recordsIn, counterIn, stateAt, flagsAt, recordAt}
+use Rattle.layout.specs.Layout.{recordsIn, counterIn, stateAt, flagsAt, recordAt}
 use Rattle.group.specs.Table.{Step, nowhere, refusedAt, stored, released, freeing, accepted, landed, onCircuit, stepIn}
 
 -- an answer and a table that are those of the case that a step comes to

@@ -21,7 +21,7 @@ use Rattle.step.specs.Frees.{freed, freesFound}
 use Rattle.step.specs.Always.{freesListedFound}
 use Rattle.words.specs.Words.{largest}
 use Rattle.group.specs.declared.Answer.{Answer}
-use Rattle.group.specs.Layout.{recordsIn, counterIn, stateAt, flagsAt, rankAt, recordOf, recordAt, put, recordBack, putLength, putRecord, putKeepsRank, otherState, otherFlags, otherRank, rankedLength, rankedState, rankedFlags, rankedRecord}
+use Rattle.layout.specs.Layout.{recordsIn, counterIn, stateAt, flagsAt, rankAt, recordOf, recordAt, put, recordBack, putLength, putRecord, putKeepsRank, otherState, otherFlags, otherRank, rankedLength, rankedState, rankedFlags, rankedRecord}
 use Rattle.group.specs.Table.{Step, refusal, nowhere, refusedAt, stored, released, freeing, accepted, landed, onCircuit, stepIn}
 use Rattle.group.specs.Cases.{stepped, inGroup}
 use Rattle.group.specs.Refusals.{refusalIn}

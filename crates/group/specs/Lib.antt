@@ -1,4 +1,3 @@
-pub mod Layout
 pub mod Table
 pub mod Cases
 pub mod Refusals

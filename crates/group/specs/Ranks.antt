@@ -16,7 +16,7 @@ use Rattle.codes.specs.declared.Found.the-variants.{Is, Missing}
 use Rattle.step.specs.Refusals.{refusal, refusalFound}
 use Rattle.step.specs.Frees.{freesFound}
 use Rattle.words.specs.Words.{largest}
-use Rattle.group.specs.Layout.{recordsIn, counterIn, stateAt, flagsAt, rankAt, recordAt, put, ranked, idle, idleRank, idleCounter, putState, putLength, putKeepsCounter, putKeepsRank, rankedState, rankedCounter, rankedRank, otherRank}
+use Rattle.layout.specs.Layout.{recordsIn, counterIn, stateAt, flagsAt, rankAt, recordAt, put, ranked, idle, idleRank, idleCounter, putState, putLength, putKeepsCounter, putKeepsRank, rankedState, rankedCounter, rankedRank, otherRank}
 use Rattle.group.specs.Table.{stepIn}
 use Rattle.group.specs.Laws.{byCases, keepsLength, refusals}
 use Rattle.group.specs.Runs.{Follows, Follows.start, Follows.next, events}

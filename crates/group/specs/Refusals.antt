@@ -11,7 +11,7 @@ use Rattle.codes.specs.declared.Found.{Found}
 use Rattle.words.specs.Words.{largest}
 use Rattle.step.specs.Refusals.{refusalFound}
 use Rattle.step.specs.Frees.{freesFound}
-use Rattle.group.specs.Layout.{recordsIn, counterIn, stateAt, flagsAt, recordAt}
+use Rattle.layout.specs.Layout.{recordsIn, counterIn, stateAt, flagsAt, recordAt}
 
 -- 0: it is accepted
 abbrev pub refusalIn : (own far : ℕ) → List ℕ → (cic : ℕ) → Found → ℕ

@@ -14,7 +14,7 @@ use Rattle.words.specs.Words.{largest}
 use Rattle.step.specs.Step.{stepFound}
 use Rattle.step.specs.Frees.{freed}
 use Rattle.group.specs.declared.Answer.{Answer}
-use Rattle.group.specs.Layout.{recordsIn, counterIn, stateAt, flagsAt, flagsOf, recordAt, put, ranked}
+use Rattle.layout.specs.Layout.{recordsIn, counterIn, stateAt, flagsAt, flagsOf, recordAt, put, ranked}
 
 -- the answer, and the table after it
 pub record Step : Type 0 where

@@ -21,7 +21,7 @@ use Rattle.step.specs.Refusals.{refusal, refusalFound, allowed, runs, seizesBlo
 use Rattle.step.specs.Always.{kept}
 use Rattle.step.specs.Frees.{freesFound}
 use Rattle.words.specs.Words.{largest}
-use Rattle.group.specs.Layout.{recordsIn, counterIn, stateAt, flagsAt, recordOf, recordAt, put, ranked, idle, idleState, idleFlags, flagsLow, putLength, putFlags, putRecord, otherFlags, otherRecord, rankedLength, rankedFlags, rankedRecord}
+use Rattle.layout.specs.Layout.{recordsIn, counterIn, stateAt, flagsAt, recordOf, recordAt, put, ranked, idle, idleState, idleFlags, flagsLow, putLength, putFlags, putRecord, otherFlags, otherRecord, rankedLength, rankedFlags, rankedRecord}
 use Rattle.group.specs.Table.{stepIn}
 use Rattle.group.specs.Laws.{outcomeAt, byCases, refusals}
 use Rattle.group.specs.Runs.{Follows, Follows.start, Follows.next}

@@ -1,12 +1,9 @@
 // A group of circuits whose records lie in a lent table: an event on one of its circuits, with every refusal of document 01.
-mod layout; // layout.rt: where a record lies in the table
-
 use circuit::Cic;
 use circuit::Outcome;
 use circuit::PointCode;
 use circuit::Sends;
 use codes::Found;
-pub use layout::table_octets;
 ghost use mathlib.Core.Path.{_≡_};
 ghost use Rattle.step.specs.Frees.{freed};
 ghost use Rattle.group.specs.Table.{refusal, refusedAt, taken, freeing, accepted, landed, onCircuit, stepIn};

@@ -9,7 +9,7 @@ use Rattle.codes.specs.Numbers.{eventOf}
 use Rattle.step.specs.Step.{step, stepFound}
 use Rattle.group.specs.Table.{onCircuit, stepIn}
 use Rattle.words.specs.Words as words
-use Rattle.group.specs.Layout.{recordsIn, counterIn, stateAt, flagsAt, flagsOf, recordOf, put, putCounter, putRank}
+use Rattle.layout.specs.Layout.{recordsIn, counterIn, stateAt, flagsAt, flagsOf, recordOf, put, putCounter, putRank}
 use Rattle.circuit.specs.Rows.{first}
 use Rattle.records.specs.Records.{octetsOf, recorded, item}
 use Rattle.trace.specs.Replay.{happens, textAt, linesWithin, lines, replay}

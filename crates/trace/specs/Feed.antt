@@ -5,7 +5,7 @@ use mathlib.Core.List.{List, [], _++_}
 use Prim.Native.Nat.{ℕ, zero, suc, _+_, _-_, _*_, min}
 use lib.Dec.{eqb, leb, ltb}
 use lib.ListN.{length, take, drop}
-use Rattle.group.specs.Layout as grouped
+use Rattle.layout.specs.Layout as grouped
 use Rattle.text.specs.Lines.{groupLine, endLine, cutLine, badGroupLine}
 use Rattle.text.specs.Writing.{lineRoom}
 use Rattle.records.specs.declared.Recorded.{Recorded}

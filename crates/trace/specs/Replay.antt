@@ -7,7 +7,7 @@ use lib.ListN.{length, drop}
 use Rattle.codes.specs.Numbers.{eventOf}
 use Rattle.codes.specs.Headings.{firstHeading, secondHeading}
 use Rattle.group.specs.declared.Answer.{Answer}
-use Rattle.group.specs.Layout as grouped
+use Rattle.layout.specs.Layout as grouped
 use Rattle.group.specs.Table.{Step, stepIn}
 use Rattle.text.specs.declared.Line.{Line}
 use Rattle.text.specs.Lines.{line, groupLine, endLine, cutLine, badGroupLine}

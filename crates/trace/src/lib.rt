@@ -289,7 +289,7 @@ pub fn table_octets(stage: Stage) -> usize
     match stage {
         Stage::Start => 0,
         Stage::Bad => 0,
-        Stage::Runs(r) => group::table_octets(at_most(r.circuits as usize, 4096) as u32),
+        Stage::Runs(r) => layout::table_octets(at_most(r.circuits as usize, 4096) as u32),
         Stage::Cut(_) => 0,
     }
 }

@@ -1,10 +1,10 @@
--- `group::layout::records` meets its contract.
+-- `layout::records` meets its contract.
 -- Assumes nothing.
 use mathlib.Core.Path.{sym}
 use borrow.Author.Tests.{eq-eqb, ne-eqb}
-use Rattle.group.specs.Layout.{recordsIn, shortRecords}
-use Rattle.group.proofs.layout.records.Statement.{statement}
-use Rattle.group.proofs.layout.records.Tie as tie
+use Rattle.layout.specs.Layout.{recordsIn, shortRecords}
+use Rattle.layout.proofs.records.Statement.{statement}
+use Rattle.layout.proofs.records.Tie as tie
 
 returns : tie.Need-returns
 unfolding recordsIn

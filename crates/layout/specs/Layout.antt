@@ -3,16 +3,16 @@
 -- a word. Record i is circuit i, and a table of zeros is an idle group.
 -- Assumes nothing.
 use mathlib.Core.Path.{_≡_, refl, sym, _∙_}
-use mathlib.Core.Bool.{Bool, true, false, cond}
+use mathlib.Core.Bool.{Bool, true, false, cond, _&&_}
 use mathlib.Core.List.{List}
-use Prim.Native.Nat.{ℕ, zero, suc, _+_, _*_, _-_, _/_, _%_, _<_, _≤_}
+use Prim.Native.Nat.{ℕ, _+_, _*_, _-_, _/_, _%_, _<_, _≤_}
 use native.Mathlib.Omega.{arith}
 use native.Mathlib.Numerals.{unary-clauses}
-use lib.Dec.{eqb, eqb→eq}
+use lib.Dec.{eqb, eqb→eq, leb}
 use lib.ListN.{length, getD, set, length-set, replicate}
 use lib.Seq.{getD-set-same, getD-set-other, lt-length-set}
 use Rattle.circuit.specs.declared.Record.{Record}
-use Rattle.circuit.specs.Records.{rec}
+use Rattle.circuit.specs.Records.{rec, valid}
 use Rattle.circuit.specs.Every.{atBelow}
 use Rattle.words.specs.Words as words
 use Rattle.words.specs.Words.{word, putWord, largest}
@@ -56,6 +56,10 @@ recordOf s f = rec s (eqb (f % 2) 1) (eqb (f / 2 % 2) 1) (eqb (f / 4 % 2) 1) (eq
 
 abbrev pub recordAt : List ℕ → ℕ → Record
 recordAt table i = recordOf (stateAt table i) (flagsAt table i)
+
+-- circuit i's octets are a record that document 01 allows: refusal 12 is for the others
+abbrev pub allowedAt : List ℕ → ℕ → Bool
+allowedAt table i = leb (flagsAt table i) 15 && valid (recordAt table i)
 
 -- the table with a record put at circuit i, which keeps its rank
 unfoldable pub put : List ℕ → ℕ → Record → List ℕ

@@ -1,10 +1,10 @@
--- `group::layout::put` meets its contract.
+-- `layout::put` meets its contract.
 -- Assumes nothing.
 use native.Mathlib.Numerals.{unary-clauses}
-use Rattle.group.specs.Layout.{put}
+use Rattle.layout.specs.Layout.{put}
 use borrow.Author.Needs.{needs}
-use Rattle.group.proofs.layout.put.Statement.{statement}
-use Rattle.group.proofs.layout.put.Tie as tie
+use Rattle.layout.proofs.put.Statement.{statement}
+use Rattle.layout.proofs.put.Tie as tie
 
 table-octets-requires : tie.Need-table-octets-requires
 table-octets-requires c κs = search needs

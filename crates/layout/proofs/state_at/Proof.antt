@@ -1,10 +1,10 @@
--- `group::layout::state_at` meets its contract.
+-- `layout::state_at` meets its contract.
 -- Assumes nothing.
 use native.Mathlib.Numerals.{unary-clauses}
-use Rattle.group.specs.Layout.{stateAt}
+use Rattle.layout.specs.Layout.{stateAt}
 use borrow.Author.Needs.{needs}
-use Rattle.group.proofs.layout.state_at.Statement.{statement}
-use Rattle.group.proofs.layout.state_at.Tie as tie
+use Rattle.layout.proofs.state_at.Statement.{statement}
+use Rattle.layout.proofs.state_at.Tie as tie
 
 table-octets-requires : tie.Need-table-octets-requires
 table-octets-requires c κs = search needs

@@ -1,9 +1,9 @@
--- `group::layout::flags_of` meets its contract.
+-- `layout::flags_of` meets its contract.
 -- Assumes nothing.
-use Rattle.group.specs.Layout.{flagsOf}
+use Rattle.layout.specs.Layout.{flagsOf}
 use borrow.Author.Needs.{needs}
-use Rattle.group.proofs.layout.flags_of.Statement.{statement}
-use Rattle.group.proofs.layout.flags_of.Tie as tie
+use Rattle.layout.proofs.flags_of.Statement.{statement}
+use Rattle.layout.proofs.flags_of.Tie as tie
 
 bit-requires : tie.Need-bit-requires
 bit-requires c κs = search needs

@@ -4,7 +4,7 @@ use circuit::Cic;
 use circuit::Record;
 ghost use mathlib.Core.Path.{_≡_};
 ghost use Prim.Native.Nat.{_≤_};
-ghost use Rattle.group.specs.Layout.{tableOctets, recordsIn, counterIn, stateAt, flagsAt, bit, flagsOf, recordOf, put, putCounter, putRank};
+ghost use Rattle.layout.specs.Layout.{tableOctets, recordsIn, counterIn, stateAt, flagsAt, rankAt, bit, flagsOf, recordOf, allowedAt, put, putCounter, putRank};
 
 const COUNTER_OCTETS: usize = 8;
 
@@ -52,6 +52,12 @@ pub fn flags_at(table: &[u8], cic: Cic) -> u8
     words::octet(table, table_octets(cic.0), 1)
 }
 
+pub fn rank_at(table: &[u8], cic: Cic) -> u64
+    ensures { λ r. ⌜ r ≡ rankAt (now (table .entry)) (cic .0) ⌝ }
+{
+    words::word(table, table_octets(cic.0) + 2)
+}
+
 fn bit(set: bool, worth: u8) -> u8
     ensures { λ r. ⌜ (r ≡ bit set worth) × (r ≤ worth) ⌝ }
 {
@@ -75,6 +81,15 @@ pub fn record_of(state: u8, flags: u8) -> Record
         bla: flags / 4 % 2 == 1,
         uba: flags / 8 % 2 == 1,
     }
+}
+
+// Whether a circuit's octets are a record that document 01 allows: refusal 12 is for the others.
+pub fn allowed_at(table: &[u8], cic: Cic) -> bool
+    ensures { λ r. ⌜ r ≡ allowedAt (now (table .entry)) (cic .0) ⌝ }
+{
+    let state = state_at(table, cic);
+    let flags = flags_at(table, cic);
+    circuit::both(flags <= 15, circuit::valid(record_of(state, flags)))
 }
 
 // Puts a record at a circuit, which keeps its rank.

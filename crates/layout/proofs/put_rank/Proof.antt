@@ -1,9 +1,9 @@
--- `group::layout::put_rank` meets its contract.
+-- `layout::put_rank` meets its contract.
 -- Assumes nothing.
-use Rattle.group.specs.Layout.{putRank}
+use Rattle.layout.specs.Layout.{putRank}
 use borrow.Author.Needs.{needs}
-use Rattle.group.proofs.layout.put_rank.Statement.{statement}
-use Rattle.group.proofs.layout.put_rank.Tie as tie
+use Rattle.layout.proofs.put_rank.Statement.{statement}
+use Rattle.layout.proofs.put_rank.Tie as tie
 
 table-octets-requires : tie.Need-table-octets-requires
 table-octets-requires c κs = search needs

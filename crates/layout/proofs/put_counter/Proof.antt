@@ -1,9 +1,9 @@
--- `group::layout::put_counter` meets its contract.
+-- `layout::put_counter` meets its contract.
 -- Assumes nothing.
-use Rattle.group.specs.Layout.{putCounter}
+use Rattle.layout.specs.Layout.{putCounter}
 use borrow.Author.Needs.{needs}
-use Rattle.group.proofs.layout.put_counter.Statement.{statement}
-use Rattle.group.proofs.layout.put_counter.Tie as tie
+use Rattle.layout.proofs.put_counter.Statement.{statement}
+use Rattle.layout.proofs.put_counter.Tie as tie
 
 put-word-requires : tie.Need-put-word-requires
 put-word-requires c κs = search needs

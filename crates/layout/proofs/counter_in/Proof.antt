@@ -1,9 +1,9 @@
--- `group::layout::counter_in` meets its contract.
+-- `layout::counter_in` meets its contract.
 -- Assumes nothing.
-use Rattle.group.specs.Layout.{counterIn}
+use Rattle.layout.specs.Layout.{counterIn}
 use borrow.Author.Needs.{needs}
-use Rattle.group.proofs.layout.counter_in.Statement.{statement}
-use Rattle.group.proofs.layout.counter_in.Tie as tie
+use Rattle.layout.proofs.counter_in.Statement.{statement}
+use Rattle.layout.proofs.counter_in.Tie as tie
 
 word-requires : tie.Need-word-requires
 word-requires c κs = search needs

@@ -1,9 +1,9 @@
--- `group::layout::flags_at` meets its contract.
+-- `layout::flags_at` meets its contract.
 -- Assumes nothing.
-use Rattle.group.specs.Layout.{flagsAt}
+use Rattle.layout.specs.Layout.{flagsAt}
 use borrow.Author.Needs.{needs}
-use Rattle.group.proofs.layout.flags_at.Statement.{statement}
-use Rattle.group.proofs.layout.flags_at.Tie as tie
+use Rattle.layout.proofs.flags_at.Statement.{statement}
+use Rattle.layout.proofs.flags_at.Tie as tie
 
 table-octets-requires : tie.Need-table-octets-requires
 table-octets-requires c κs = search needs
