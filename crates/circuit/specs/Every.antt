@@ -1,6 +1,7 @@
--- From a test that is computed at every point of a finite range to the rule at each point.
+-- Tests that are computed: from the test at every point of a finite range to the rule at each point, and back.
 -- Assumes nothing.
-use mathlib.Core.Bool.{Bool, true, false, _&&_, _||_, not}
+use mathlib.Core.Path.{_≡_, refl}
+use mathlib.Core.Bool.{Bool, true, false, cond, _&&_, _||_, not}
 use Prim.Native.Nat.{ℕ, zero, suc, _<_, _≤_}
 use native.Mathlib.Nat.{le-of-suc-le-suc, not-suc-le-zero}
 use native.Mathlib.Omega.{arith}
@@ -16,6 +17,24 @@ pub right : (a b : Bool) → T (a && b) → T b
 right true b t = t
 right false b t = absurd t
 
+pub both : (a b : Bool) → T a → T b → T (a && b)
+both true b s t = t
+both false b s t = absurd s
+
+pub isTrue : (b : Bool) → T b → b ≡ true
+isTrue true t = refl
+isTrue false t = absurd t
+
+-- two tests that come to the same
+abbrev pub alike : Bool → Bool → Bool
+alike a b = cond a b (not b)
+
+pub alikeSame : (a b : Bool) → T (alike a b) → a ≡ b
+alikeSame true true t = refl
+alikeSame true false t = absurd t
+alikeSame false true t = absurd t
+alikeSame false false t = refl
+
 -- "if a then b" as a test
 abbrev pub implies : Bool → Bool → Bool
 implies a b = not a || b
@@ -23,6 +42,10 @@ implies a b = not a || b
 pub then : (a b : Bool) → T (implies a b) → T a → T b
 then true b t h = t
 then false b t h = absurd h
+
+pub given : (a b : Bool) → (T a → T b) → T (implies a b)
+given true b f = f tt
+given false b f = tt
 
 -- at both Bools
 abbrev pub eachBool : (Bool → Bool) → Bool
@@ -41,6 +64,10 @@ pub atBelow : (n : ℕ) (f : ℕ → Bool) → T (eachBelow n f) → (k : ℕ) �
 atBelow zero f t k h = absurd (not-suc-le-zero h)
 atBelow (suc n) f t zero h = left (f zero) (eachBelow n (λ k. f (suc k))) t
 atBelow (suc n) f t (suc k) h = atBelow n (λ k. f (suc k)) (right (f zero) (eachBelow n (λ k. f (suc k))) t) k (le-of-suc-le-suc h)
+
+pub eachOf : (n : ℕ) (f : ℕ → Bool) → ((k : ℕ) → k < n → T (f k)) → T (eachBelow n f)
+eachOf zero f h = tt
+eachOf (suc n) f h = both (f zero) (eachBelow n (λ k. f (suc k))) (h zero (omega arith)) (eachOf n (λ k. f (suc k)) (λ k l. h (suc k) (omega arith)))
 
 -- what is to hold at a role and a record, where the record is valid
 abbrev pub at : (Bool → Record → Bool) → Bool → ℕ → Bool → Bool → Bool → Bool → Bool

@@ -6,9 +6,9 @@ use mathlib.Core.Path.{_≡_, subst₂}
 use Prim.Native.Nat.{ℕ}
 use lib.Dec.{T, eqb, eqb-refl}
 use Rattle.circuit.specs.declared.Signal.{Signal}
-use Rattle.circuit.specs.Every.{left}
+use Rattle.circuit.specs.Every.{left, isTrue}
 use Rattle.ends.specs.Ends.{End, Reached, sameStage, awaits, awaiting, marks, Agree, Claim}
-use Rattle.ends.proofs.Words.{heard, Half, view, is-true}
+use Rattle.ends.proofs.Words.{heard, Half, view}
 use Rattle.ends.proofs.Rooms.{agrees}
 use Rattle.ends.proofs.Sound.{sound-here}
 use Rattle.ends.proofs.Explored.{rooms}
@@ -21,7 +21,7 @@ at-rest false true d t m n = absurd n
 at-rest false false d t m n = t
 
 stage : (s t : ℕ) → T (agrees (view true s []) (view false t [])) → T (not (awaits s)) → T (not (awaits t)) → T (sameStage s t || sameStage t s)
-stage s t h m n = at-rest (awaits s) (awaits t) (sameStage s t || sameStage t s) (rw (is-true (eqb s s) (eqb-refl s), is-true (eqb t t) (eqb-refl t)) at h) m n
+stage s t h m n = at-rest (awaits s) (awaits t) (sameStage s t || sameStage t s) (rw (isTrue (eqb s s) (eqb-refl s), isTrue (eqb t t) (eqb-refl t)) at h) m n
 
 -- the far mark of one end, with nothing on its way
 block : (own far : Bool) (w v : List Signal) → w ≡ [] → v ≡ [] → T (inStep own (told far (heard w)) (resetIn (heard v))) → T (marks far own)

@@ -8,9 +8,9 @@ use lib.Dec.{T, eqb, leb, leb→le, eqb-refl}
 use Rattle.circuit.specs.declared.Signal.{Signal}
 use Rattle.circuit.specs.declared.Signal.the-variants.{Iam, Acm, Anc, Ann, Cbk, Clf, Ran, Rlg, Blo, Bla, Ubl, Uba, Rsc, Fail}
 use Rattle.circuit.specs.Records.{valid}
-use Rattle.circuit.specs.Every.{left, right, eachBool, atBool, eachBelow, atBelow}
+use Rattle.circuit.specs.Every.{left, right, isTrue, eachBool, atBool, eachBelow, atBelow}
 use Rattle.ends.specs.Ends.{End, Reached, unheard, NextIsHeard, ClaimUnheard}
-use Rattle.ends.proofs.Words.{word, words, heard, mute, quiet, kept, run, runOf, next, Run, Run.ran, Half, Half.half, view, bloFor, allIn, at-has, is-true}
+use Rattle.ends.proofs.Words.{word, words, heard, mute, quiet, kept, run, runOf, next, Run, Run.ran, Half, Half.half, view, bloFor, allIn, at-has}
 use Rattle.ends.proofs.Events.{isWord, said}
 use Rattle.ends.proofs.Rooms.{agrees, hears}
 use Rattle.ends.proofs.Sound.{sound-here}
@@ -54,7 +54,7 @@ module _ (c : Bool) (s x : ℕ) (w : List ℕ) where
 
   by-quiet : (q : Bool) → T (not U || not q && true) → Hears (cond q (runOf c (next s x) w) (ran s (x ∷ kept w))) → T (not U)
   by-quiet true p h = or-cut (not U) true p
-  by-quiet false p h = rw (is-true (eqb s s) (eqb-refl s)) at h
+  by-quiet false p h = rw (isTrue (eqb s s) (eqb-refl s)) at h
 
   by-mute : (m : Bool) → T (not U || not (quiet c s x) && not m) → Hears (run c s (cond m (kept w) (x ∷ kept w))) → T (not U)
   by-mute true p h = or-cut (not U) (not (quiet c s x)) p

@@ -5,9 +5,9 @@ use mathlib.Core.List.{List, [], _∷_, _++_}
 use mathlib.Core.Path.{_≡_, refl}
 use Prim.Native.Nat.{ℕ}
 use lib.Dec.{T, eqb, eqb→eq, eqb-refl}
-use Rattle.circuit.specs.Every.{left, right}
+use Rattle.circuit.specs.Every.{left, right, both, isTrue}
 use Rattle.ends.specs.Ends.{When.anyTime, When.inSilence, When.losingAll}
-use Rattle.ends.proofs.Words.{words, blo, mute, kept, bloIn, quiet, next, Run, Run.ran, run, Half, Half.half, runOf, restOf, bloFor, view, sameHalf, same-half, joinAll, joined, allIn, member, at-member, has, both, is-true, family, absorbs, run-absorbs, endOf, reach, outgoing, run-ends}
+use Rattle.ends.proofs.Words.{words, blo, mute, kept, bloIn, quiet, next, Run, Run.ran, run, Half, Half.half, runOf, restOf, bloFor, view, sameHalf, same-half, joinAll, joined, allIn, member, at-member, has, family, absorbs, run-absorbs, endOf, reach, outgoing, run-ends}
 use Rattle.ends.proofs.Moves.{Move, Move.to, Table, among, sameMove, same-move, causeOf}
 use Rattle.ends.proofs.Rooms.{Room, Need, Need.room, Need.impossible, over, comes, goes, glides, takesRest, takes, afresh, byWords, byHost, byLoss, bySilence, follows, sound, sameRoom, listed, inRole, meets, closedAt, closed}
 
@@ -123,7 +123,7 @@ module _ (l : List Room) (c : Bool) (w : List ℕ) (t : ℕ) (v : List ℕ) wher
       reached e q h = reached-if (has (endOf R) (reach n)) _ (rw e (run-ends c (next s x) (rw e at q) (kept w))) h
 
   took : (s x : ℕ) (mv : Move) → Meets l c (takesRest c y s (ran s (x ∷ kept w)) x mv) → Lands l c w t v mv
-  took s x (to n o) h = comes-with n o (rw (is-true (eqb s s) (eqb-refl s), is-true (eqb x x) (eqb-refl x)) at h)
+  took s x (to n o) h = comes-with n o (rw (isTrue (eqb s s) (eqb-refl s), isTrue (eqb x x) (eqb-refl x)) at h)
 
   -- the word at the head of the queue
   module _ (s x : ℕ) (mv : Move) where
@@ -237,7 +237,7 @@ module _ (m : Table) (l : List Room) (shut : T (closed m l)) where
   -- one in silence
   pub by-silence : (c : Bool) (s t : ℕ) → Inside l c s [] t [] → (mv : Move) → T (among mv (m c s (causeOf inSilence))) → Lands l c [] t [] mv
   by-silence c s t here mv i = fresh c s [] t [] here mv (at-move l c (afresh c Y) mv (m c s (causeOf inSilence)) i
-      (rw (is-true (eqb s s) (eqb-refl s), is-true (eqb t t) (eqb-refl t)) at silent))
+      (rw (isTrue (eqb s s) (eqb-refl s), isTrue (eqb t t) (eqb-refl t)) at silent))
     where
       Y : Half
       Y = view (not c) t []

@@ -8,7 +8,7 @@ use Prim.Native.Nat.{ℕ, suc}
 use lib.Dec.{T, eqb, leb, eqb→eq}
 use Rattle.circuit.specs.declared.Signal.{Signal}
 use Rattle.circuit.specs.declared.Signal.the-variants.{Iam, Acm, Anc, Ann, Cbk, Clf, Ran, Rlg, Blo, Bla, Ubl, Uba, Rsc, Fail}
-use Rattle.circuit.specs.Every.{left, right, eachBool, atBool}
+use Rattle.circuit.specs.Every.{left, right, both, isTrue, eachBool, atBool}
 
 -- The words. ANC and ANN are one, and so are the failures. The four that change no call come last, and state s of an outgoing call goes on by
 -- word s: 1 by ACM, 2 by an answer, 3 by CBK, 4 by RAN.
@@ -85,14 +85,6 @@ has x l = member eqb x l
 
 pub at-has : (f : ℕ → Bool) (l : List ℕ) (x : ℕ) → T (has x l) → T (allIn f l) → T (f x)
 at-has = at-member eqb eqb→eq
-
-pub both : (a b : Bool) → T a → T b → T (a && b)
-both true b s t = t
-both false b s t = absurd s
-
-pub is-true : (a : Bool) → T a → a ≡ true
-is-true true t = refl
-is-true false t = absurd t
 
 abbrev pub sameList : List ℕ → List ℕ → Bool
 sameList [] [] = true
@@ -292,7 +284,7 @@ run-absorbs c t l a s m (x ∷ u) = by (quiet c s x) (λ q. at-has (absorbsWord 
     by false e ih = refl
     by true e ih =
         let two : T (quiet c t x && eqb (next t x) t) = right (has (next s x) l) _ (e tt) in
-        let qt : quiet c t x ≡ true = is-true (quiet c t x) (left (quiet c t x) _ two) in
+        let qt : quiet c t x ≡ true = isTrue (quiet c t x) (left (quiet c t x) _ two) in
         let st : next t x ≡ t = eqb→eq (next t x) t (right (quiet c t x) _ two) in
         ap (λ (q : Bool). cond q (run c (next t x) u) (ran t (x ∷ u))) qt ∙ (ap (λ (n : ℕ). run c n u) st ∙ ih (left (has (next s x) l) _ (e tt)))
 

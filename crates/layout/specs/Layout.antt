@@ -5,15 +5,17 @@
 use mathlib.Core.Path.{_≡_, refl, sym, _∙_}
 use mathlib.Core.Bool.{Bool, true, false, cond, _&&_}
 use mathlib.Core.List.{List}
-use Prim.Native.Nat.{ℕ, _+_, _*_, _-_, _/_, _%_, _<_, _≤_}
+use Prim.Native.Nat.{ℕ, _+_, _*_, _-_, _/_, _%_, _^_, _<_, _≤_}
 use native.Mathlib.Omega.{arith}
 use native.Mathlib.Numerals.{unary-clauses}
 use lib.Dec.{eqb, eqb→eq, leb}
+use borrow.Author.Tests.{eqb-true, eqb-false, le-leb, lt-leb, lt-ltb}
 use lib.ListN.{length, getD, set, length-set, replicate}
 use lib.Seq.{getD-set-same, getD-set-other, lt-length-set}
 use Rattle.circuit.specs.declared.Record.{Record}
-use Rattle.circuit.specs.Records.{rec, valid}
-use Rattle.circuit.specs.Every.{atBelow}
+use Rattle.circuit.specs.Records.{rec, flagsAllowed, valid}
+use Rattle.circuit.specs.Every.{atBelow, alike, alikeSame}
+use Rattle.layout.specs.declared.Stored.{Stored}
 use Rattle.words.specs.Words as words
 use Rattle.words.specs.Words.{word, putWord, largest}
 
@@ -57,9 +59,16 @@ recordOf s f = rec s (eqb (f % 2) 1) (eqb (f / 2 % 2) 1) (eqb (f / 4 % 2) 1) (eq
 abbrev pub recordAt : List ℕ → ℕ → Record
 recordAt table i = recordOf (stateAt table i) (flagsAt table i)
 
--- circuit i's octets are a record that document 01 allows: refusal 12 is for the others
+-- two octets are a record that document 01 allows: refusal 12 is for the others
+abbrev pub allowed : (state flags : ℕ) → Bool
+allowed s f = leb f 15 && valid (recordOf s f)
+
 abbrev pub allowedAt : List ℕ → ℕ → Bool
-allowedAt table i = leb (flagsAt table i) 15 && valid (recordAt table i)
+allowedAt table i = allowed (stateAt table i) (flagsAt table i)
+
+-- all that stands at circuit i
+abbrev pub storedAt : List ℕ → ℕ → Stored
+storedAt table i = record { state = stateAt table i; flags = flagsAt table i; rank = rankAt table i }
 
 -- the table with a record put at circuit i, which keeps its rank
 unfoldable pub put : List ℕ → ℕ → Record → List ℕ
@@ -75,6 +84,21 @@ putRank table i n = putWord table (tableOctets i + 2) n
 -- with both: the circuit takes the counter
 abbrev pub ranked : List ℕ → ℕ → (n : ℕ) → List ℕ
 ranked table i n = putRank (putCounter table n) i n
+
+-- a circuit's octets one by one, as the program reads them
+pub octetsAt : (table : List ℕ) (i at rank : ℕ) → at ≡ tableOctets i
+    → rank ≡ getD table (at + 2) 0 + 256 * (getD table (at + 3) 0 + 256 * (getD table (at + 4) 0 + 256 * (getD table (at + 5) 0 + 256 * (getD table (at + 6) 0 + 256 * (getD table (at + 7) 0 + 256 * (getD table (at + 8) 0 + 256 * getD table (at + 9) 0))))))
+    → record { state = getD table at 0; flags = getD table (at + 1) 0; rank = rank } ≡ storedAt table i
+unfolding stateAt flagsAt rankAt
+octetsAt table i at rank place e =
+    let p₁ : at + 2 + 1 ≡ at + 3 = omega arith in
+    let p₂ : at + 2 + 2 ≡ at + 4 = omega arith in
+    let p₃ : at + 2 + 3 ≡ at + 5 = omega arith in
+    let p₄ : at + 2 + 4 ≡ at + 6 = omega arith in
+    let p₅ : at + 2 + 5 ≡ at + 7 = omega arith in
+    let p₆ : at + 2 + 6 ≡ at + 8 = omega arith in
+    let p₇ : at + 2 + 7 ≡ at + 9 = omega arith in
+    rw (e, ← place, words.octets table (at + 2), p₁, p₂, p₃, p₄, p₅, p₆, p₇)
 
 -- an octet of flags and the flags correspond
 pub flagsBack : (s f : ℕ) → f ≤ 15 → flagsOf (recordOf s f) ≡ f
@@ -110,6 +134,26 @@ recordBack r = go (r .own) (r .far) (r .bla) (r .uba)
     go false false true false = refl
     go false false false true = refl
     go false false false false = refl
+
+-- the allowed flags as a set, as the program has them: flags f are in it where the bit worth 2^f is set
+abbrev listed : (flags set : ℕ) → Bool
+listed f set = eqb (set / 2 ^ f % 2) 1
+
+pub allowedBelow12 : (s f : ℕ) → f ≤ 15 → s < 12 → listed f 0x05af ≡ allowed s f
+unfolding recordOf
+allowedBelow12 s f low h =
+    simp (le-leb f 15 low, le-leb s 12 (omega arith), lt-ltb s 12 h)
+    (alikeSame (listed f 0x05af) (flagsAllowed (recordOf s f) && true) (atBelow 16 (λ f. alike (listed f 0x05af) (flagsAllowed (recordOf s f) && true)) tt f (omega arith)))
+
+pub allowedFrom12 : (s f : ℕ) → f ≤ 15 → 12 ≤ s → (eqb s 12 && listed f 0x0005) ≡ allowed s f
+unfolding recordOf
+allowedFrom12 s f low h = go (eqb s 12) refl
+  where
+    go : (b : Bool) → eqb s 12 ≡ b → (b && listed f 0x0005) ≡ allowed s f
+    go true e =
+        rw (eqb-true s 12 e)
+        (simp (le-leb f 15 low) (alikeSame (listed f 0x0005) (valid (recordOf 12 f)) (atBelow 16 (λ f. alike (listed f 0x0005) (valid (recordOf 12 f))) tt f (omega arith))))
+    go false e = let other : s ≡ 12 → ⊥ = eqb-false s 12 e in simp (le-leb f 15 low, lt-leb s 12 (omega arith))
 
 -- a circuit of the table has its octets there
 inside : (octets i : ℕ) → i < recordsIn octets → tableOctets i + recordOctets ≤ octets

@@ -4,11 +4,24 @@ use circuit::Cic;
 use circuit::Record;
 ghost use mathlib.Core.Path.{_≡_};
 ghost use Prim.Native.Nat.{_≤_};
-ghost use Rattle.layout.specs.Layout.{tableOctets, recordsIn, counterIn, stateAt, flagsAt, rankAt, bit, flagsOf, recordOf, allowedAt, put, putCounter, putRank};
+ghost use Rattle.layout.specs.Layout.{tableOctets, recordsIn, counterIn, stateAt, flagsAt, rankAt, bit, flagsOf, recordOf, allowed, storedAt, put, putCounter, putRank};
 
 const COUNTER_OCTETS: usize = 8;
 
 const RECORD_OCTETS: usize = 10;
+
+// The flags that are allowed, 0, 1, 2, 3, 5, 7, 8 and 10, as a set: flags f are in it where the bit worth 2^f is set.
+const ALLOWED: u32 = 0x05af;
+
+// Those that are allowed in state 12: 0 and 2.
+const ALLOWED_IN_RESET: u32 = 0x0005;
+
+// What stands at a circuit.
+pub struct Stored {
+    pub state: u8,
+    pub flags: u8,
+    pub rank: u64,
+}
 
 // The octets of a table of so many circuits. A circuit's record begins where the table of those before it would end.
 pub fn table_octets(circuits: u32) -> usize
@@ -58,6 +71,48 @@ pub fn rank_at(table: &[u8], cic: Cic) -> u64
     words::word(table, table_octets(cic.0) + 2)
 }
 
+// A record whose octets may not all be there.
+fn short_record(table: &[u8], cic: Cic) -> Stored
+    ensures { λ r. ⌜ r ≡ storedAt (now (table .entry)) (cic .0) ⌝ }
+{
+    let state = state_at(table, cic);
+    let flags = flags_at(table, cic);
+    let rank = rank_at(table, cic);
+    Stored {
+        state: state,
+        flags: flags,
+        rank: rank,
+    }
+}
+
+// All that stands at a circuit, asked once for its place.
+pub fn stored_at(table: &[u8], cic: Cic) -> Stored
+    ensures { λ r. ⌜ r ≡ storedAt (now (table .entry)) (cic .0) ⌝ }
+{
+    let at = table_octets(cic.0);
+    if table.len() <= at {
+        return short_record(table, cic);
+    }
+    if table.len() - at < RECORD_OCTETS {
+        return short_record(table, cic);
+    }
+    let rank = words::number(
+        table[at + 2],
+        table[at + 3],
+        table[at + 4],
+        table[at + 5],
+        table[at + 6],
+        table[at + 7],
+        table[at + 8],
+        table[at + 9],
+    );
+    Stored {
+        state: table[at],
+        flags: table[at + 1],
+        rank: rank,
+    }
+}
+
 fn bit(set: bool, worth: u8) -> u8
     ensures { λ r. ⌜ (r ≡ bit set worth) × (r ≤ worth) ⌝ }
 {
@@ -83,13 +138,18 @@ pub fn record_of(state: u8, flags: u8) -> Record
     }
 }
 
-// Whether a circuit's octets are a record that document 01 allows: refusal 12 is for the others.
-pub fn allowed_at(table: &[u8], cic: Cic) -> bool
-    ensures { λ r. ⌜ r ≡ allowedAt (now (table .entry)) (cic .0) ⌝ }
+// Whether two octets, state and flags, are a record that document 01 allows: refusal 12 is for the others. Sets of flags are asked, since a whole
+// table is judged by this.
+pub fn allowed(state: u8, flags: u8) -> bool
+    ensures { λ r. ⌜ r ≡ allowed state flags ⌝ }
 {
-    let state = state_at(table, cic);
-    let flags = flags_at(table, cic);
-    circuit::both(flags <= 15, circuit::valid(record_of(state, flags)))
+    if 15 < flags {
+        return false;
+    }
+    if state < 12 {
+        return (ALLOWED >> flags) % 2 == 1;
+    }
+    circuit::both(state == 12, (ALLOWED_IN_RESET >> flags) % 2 == 1)
 }
 
 // Puts a record at a circuit, which keeps its rank.

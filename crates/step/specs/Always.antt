@@ -17,7 +17,7 @@ use Rattle.circuit.specs.declared.Event.the-variants.{Arrives, Ordered, RunsOut
 use Rattle.circuit.specs.declared.Outcome.{Outcome}
 use Rattle.circuit.specs.Records.{valid}
 use Rattle.circuit.specs.Rows.{first, refused}
-use Rattle.circuit.specs.Every.{implies, then, left, right, everywhere, atValid}
+use Rattle.circuit.specs.Every.{implies, then, left, right, both, alike, alikeSame, everywhere, atValid}
 use Rattle.codes.specs.declared.Found.{Found}
 use Rattle.codes.specs.declared.Found.the-variants.{Is, Missing}
 use Rattle.step.specs.Step.{step, stepFound}
@@ -34,16 +34,6 @@ sent Nothing = 0
 sent (One s) = 1
 sent (Two s t) = 2
 
--- two tests that come to the same
-abbrev alike : Bool → Bool → Bool
-alike a b = cond a b (not b)
-
-alikeSame : (a b : Bool) → T (alike a b) → a ≡ b
-alikeSame true true t = refl
-alikeSame true false t = absurd t
-alikeSame false true t = absurd t
-alikeSame false false t = refl
-
 -- the claims of an event at a role and a record
 abbrev staysValid : Bool → Record → Event → Bool
 staysValid c r e = valid (step c r e .after)
@@ -59,10 +49,6 @@ sendsOne c r e = implies (not (isSignal e) && eqb (step c r e .refusal) 0) (eqb 
 
 abbrev claims : Event → Bool → Record → Bool
 claims e c r = staysValid c r e && (refusesRight c r e && (freesRight c r e && sendsOne c r e))
-
-pub both : (a b : Bool) → T a → T b → T (a && b)
-both true b s t = t
-both false b s t = absurd s
 
 tested : (e : Event) → T (everywhere (claims e))
 unfolding step first

@@ -15,15 +15,11 @@ use Rattle.circuit.specs.declared.Event.{Event}
 use Rattle.circuit.specs.declared.Event.the-variants.{Arrives, Ordered}
 use Rattle.circuit.specs.Records.{to, valid, restarted, flagsAllowed, onlyFar}
 use Rattle.circuit.specs.Rows.{first, answered}
-use Rattle.circuit.specs.Every.{implies, then, left, right, everywhere, atValid}
+use Rattle.circuit.specs.Every.{implies, then, left, right, both, isTrue, everywhere, atValid}
 use Rattle.step.specs.Step.{step}
 use Rattle.step.specs.Refusals.{within}
 use Rattle.step.specs.Frees.{frees}
-use Rattle.step.specs.Always.{both, freesListed, sent}
-
-isTrue : (b : Bool) → T b → b ≡ true
-isTrue true t = refl
-isTrue false t = absurd t
+use Rattle.step.specs.Always.{freesListed, sent}
 
 out : (s : ℕ) → T (within s 1 5) → T (not (eqb s 0))
 out s w = let h : 1 ≤ s = leb→le 1 s (left (leb 1 s) _ w) in rw (ne-eqb s 0 (λ e. omega arith)) tt

@@ -1,0 +1,58 @@
+-- Which circuit to seize (document 02, T-02, by Q.724, 2.4, method 2). This says what the answer is, not how it is found.
+-- Assumes nothing.
+use mathlib.Core.Bool.{Bool, not, cond, _&&_, _||_}
+use mathlib.Core.List.{List}
+use Prim.Native.Nat.{ℕ, _+_}
+use lib.Dec.{eqb, leb, ltb}
+use lib.ListN.{length}
+use Rattle.circuit.specs.declared.Cic.{Cic}
+use Rattle.circuit.specs.Groups.{badGroup, controls}
+use Rattle.layout.specs.Layout.{recordsIn, stateAt, rankAt, recordAt, allowedAt}
+use Rattle.select.specs.declared.Selected.{Selected}
+use Rattle.select.specs.First.{first, some, best}
+
+-- each refusal reports circuit 0 and count 0
+abbrev pub refused : (n : ℕ) → Selected
+refused n = record { refusal = n; cic = record { 0 = 0 }; looked = 0 }
+
+abbrev pub taken : (cic looked : ℕ) → Selected
+taken cic looked = record { refusal = 0; cic = record { 0 = cic }; looked = looked }
+
+-- the idle circuits without far block
+abbrev pub qualifies : List ℕ → ℕ → Bool
+qualifies table i = eqb (stateAt table i) 0 && not (recordAt table i .far)
+
+-- that we control; those we do not control
+abbrev pub ours : (own far : ℕ) → List ℕ → ℕ → Bool
+ours own far table i = qualifies table i && controls own far i
+
+abbrev pub theirs : (own far : ℕ) → List ℕ → ℕ → Bool
+theirs own far table i = qualifies table i && not (controls own far i)
+
+-- released earlier, released later; equal ranks go to the lower CIC
+abbrev pub earlier : List ℕ → (i j : ℕ) → Bool
+earlier table i j = ltb (rankAt table i) (rankAt table j) || (eqb (rankAt table i) (rankAt table j) && leb i j)
+
+abbrev pub later : List ℕ → (i j : ℕ) → Bool
+later table i j = ltb (rankAt table j) (rankAt table i) || (eqb (rankAt table i) (rankAt table j) && leb i j)
+
+-- how many records were looked at: the whole table, unless a qualifying one of our own with rank 0 is found, where it stops
+abbrev pub stops : (own far : ℕ) → List ℕ → ℕ → Bool
+stops own far table i = ours own far table i && eqb (rankAt table i) 0
+
+abbrev pub looked : (own far : ℕ) → List ℕ → (n : ℕ) → ℕ
+looked own far table n = cond (some n (stops own far table)) (first n (stops own far table) + 1) n
+
+-- of n circuits: first, of ours, the one released longest ago; if there are none, of theirs, the one released latest; 14 if there are none either
+unfoldable pub choice : (own far : ℕ) → List ℕ → (n : ℕ) → Selected
+choice own far table n =
+    cond (some n (ours own far table)) (taken (best n (ours own far table) (earlier table)) (looked own far table n))
+    (cond (some n (theirs own far table)) (taken (best n (theirs own far table) (later table)) n)
+    (refused 14))
+
+-- 1, and 12 for any bad record, come before
+unfoldable pub selectIn : (own far : ℕ) → List ℕ → Selected
+selectIn own far table =
+    cond (badGroup own far (recordsIn (length table))) (refused 1)
+    (cond (some (recordsIn (length table)) (λ i. not (allowedAt table i))) (refused 12)
+    (choice own far table (recordsIn (length table))))
