@@ -171,8 +171,8 @@ static void expect_laws(uint64_t answer)
 {
     memcpy(copy, lent, now.len);
     uint32_t refusal = tup_selected_refusal(answer), bad = bad_records();
-    if (refusal != 0 ? answer != refusal : bad > 0)
-        differ("the answer is %016llx", (unsigned long long)answer);
+    if (refusal != 0 && answer != refusal)
+        differ("%016llx: circuit and count of a refusal are 0", (unsigned long long)answer);
     if ((refusal == TUP_BAD_RECORD) != (bad > 0))
         differ("refusal %u, and %u records are bad", refusal, bad);
     if (bad > 0)
@@ -352,6 +352,13 @@ static void drained(enum order order)
 
 /* Groups and lengths. */
 
+/* Refused 1 exactly where tup_step refuses it. */
+static void expect_judged_alike(uint64_t answer)
+{
+    if ((answer == TUP_NO_SUCH_GROUP) != (tup_answer_refusal(step(table, 0, 0, 0)) == TUP_NO_SUCH_GROUP))
+        differ("the answer is %016llx, and tup_step judges the group otherwise", (unsigned long long)answer);
+}
+
 /* Every length up to beyond the longest table. Where it is one, only its last circuit is idle. */
 static void every_length(void)
 {
@@ -362,8 +369,10 @@ static void every_length(void)
         for (uint32_t cic = 0; whole && cic < now.circuits; cic++)
             set_record(cic, cic + 1 < now.circuits ? TUP_IN_ANSWERED : TUP_IDLE, 0, len);
         uint64_t last = (uint64_t)(now.circuits - 1) << 16 | (uint64_t)now.circuits << 32;
-        if (compare() != (whole && now.circuits <= TUP_CIRCUITS_MAX ? last : TUP_NO_SUCH_GROUP))
-            differ("this length");
+        uint64_t answer = compare();
+        if (answer != (whole && now.circuits <= TUP_CIRCUITS_MAX ? last : TUP_NO_SUCH_GROUP))
+            differ("the answer is %016llx", (unsigned long long)answer);
+        expect_judged_alike(answer);
     }
 }
 
@@ -375,9 +384,9 @@ static void every_code(void)
     for (uint32_t code = 0; code < 0x12000; code++)
         for (unsigned i = 0; i < 4 * WIDE; i++) {
             now.own = widened(code, i / 4), now.far = others[i % 4];
-            compare();
+            expect_judged_alike(compare());
             now.far = now.own, now.own = others[i % 4];
-            compare();
+            expect_judged_alike(compare());
         }
 }
 
