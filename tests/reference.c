@@ -42,15 +42,13 @@ static int group_good(uint32_t own, uint32_t far, size_t count)
     return own < POINT_CODES && far < POINT_CODES && own != far && count >= 1 && count <= CIRCUITS;
 }
 
+/* The flags allowed, a bit for each number that they may make: 4 needs 1, 8 needs 1 absent; in state 12 only 2 may be set. As bits
+   they are tested at once, which tells where a whole table is judged. */
+enum { ALLOWED = 1 << 0 | 1 << 1 | 1 << 2 | 1 << 3 | 1 << 5 | 1 << 7 | 1 << 8 | 1 << 10, ALLOWED_IN_12 = 1 << 0 | 1 << 2 };
+
 static int record_good(unsigned state, unsigned flags)
 {
-    if (state > AWAITING_RESET || flags > 15)
-        return 0;
-    if (state == AWAITING_RESET)
-        return (flags & ~(unsigned)FAR) == 0;
-    if (flags & OWN)
-        return !(flags & AWAITING_UBA);
-    return !(flags & AWAITING_BLA);
+    return state <= AWAITING_RESET && flags <= 15 && ((state == AWAITING_RESET ? ALLOWED_IN_12 : ALLOWED) >> flags & 1);
 }
 
 static int is_failure(uint32_t heading)
