@@ -131,7 +131,7 @@ static uint32_t bad_records(void)
     return bad;
 }
 
-/* What qualifies in the table and does not go after the chosen one: nothing else may. */
+/* The chosen circuit qualifies in this table, and none that does goes before it; refused, there is none. */
 static void expect_first(const uint8_t *in, uint64_t answer)
 {
     uint32_t chosen = tup_selected_circuit(answer), refusal = tup_selected_refusal(answer);
@@ -154,16 +154,17 @@ static void expect_taken(uint64_t answer)
         differ("circuit %u is chosen and not seized: refused %u", chosen, tup_answer_refusal(seized));
 }
 
-/* A circuit that we have blocked qualifies. A host that leaves those out marks them as blocked by the far end in a copy. */
-static void expect_unblocked(void)
+/* A host that wants circuits left out, here those that we have blocked and every third one, marks them in a copy as blocked by the
+   far end: every good record stays good, and the choice is the first of the others. */
+static void expect_left_out(void)
 {
     memcpy(copy, lent, now.len);
     for (uint32_t cic = 0; cic < now.circuits; cic++)
-        if (tup_record_flags(copy, cic) & TUP_OWN_BLOCK)
+        if (cic % 3 == 2 || (tup_record_flags(copy, cic) & TUP_OWN_BLOCK))
             copy[TUP_RECORD_AT(cic) + TUP_RECORD_FLAGS] |= TUP_FAR_BLOCK;
     uint64_t answer = tup_select(now.own, now.far, copy, now.len);
     if (tup_selected_refusal(answer) != 0 && answer != TUP_NO_CIRCUIT)
-        differ("a copy without our own blocks is refused %llu", (unsigned long long)answer);
+        differ("a copy with circuits left out is refused %llu", (unsigned long long)answer);
     expect_first(copy, answer);
 }
 
@@ -180,7 +181,7 @@ static void expect_laws(uint64_t answer)
     expect_first(lent, answer);
     if (refusal == 0)
         expect_taken(answer);
-    expect_unblocked();
+    expect_left_out();
 }
 
 /* Records one by one: every value of state and flags, and every circuit as the one that qualifies. */
