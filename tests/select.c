@@ -1,7 +1,7 @@
 /* tup_select against the reference: every small table over a few telling records, every record, every circuit, random tables of all
-   sizes and make-ups, bad groups and lengths. Then against the request's own words, with no reference beside it: what is chosen
-   qualifies, is seized at once, and no other circuit goes before it. Then two ends that both choose, and where they meet.
-   Tables are lent through a view that cannot be written, beside an unreadable stretch. */
+   sizes and make-ups, bad groups and lengths. And against the request's own words, with no reference beside it: what is chosen
+   qualifies, is seized at once, and no other circuit goes before it. Tables are lent through a view that cannot be written, beside
+   an unreadable stretch. */
 #include "harness.h"
 #include "reference.h"
 #include "tup.h"
@@ -401,169 +401,6 @@ static void no_table(void)
         differ("a table of more than 4 GiB is not refused 1");
 }
 
-/* Two ends that both choose, over eight circuits and a link on which a signal takes its time. Each makes calls of its own. */
-
-enum { GROUP = 8, WAY = 64 };
-
-static struct end {
-    uint8_t table[TUP_TABLE_OCTETS(GROUP)];
-    struct { uint32_t cic, heading; } way[WAY]; /* what this end has sent and is on its way */
-    unsigned first, count;
-    unsigned left[GROUP]; /* rounds until this end releases the call that it made there */
-} ends[2];
-
-static struct {
-    unsigned long rounds, calls, theirs, none, both, each_has_own, met, last_one, lowest_met, yielded;
-} run;
-
-/* End 0 has code 2 and so controls the even circuits, end 1 the odd ones. */
-static void stand_at(unsigned end)
-{
-    now.own = 2 - end, now.far = 1 + end, now.circuits = GROUP, now.len = sizeof ends[end].table;
-    lent = table = ends[end].table;
-}
-
-static void event(unsigned end, uint32_t cic, uint32_t kind, uint32_t code)
-{
-    struct end *at = &ends[end];
-    stand_at(end);
-    uint64_t answer = step(table, cic, kind, code);
-    if (tup_answer_refusal(answer) != 0 || tup_answer_second(answer) != 0)
-        differ("kind %u code %u on circuit %u: %012llx", kind, code, cic, (unsigned long long)answer);
-    run.yielded += tup_answer_indication(answer) == TUP_IND_INCOMING_CALL_TRY_OWN_ELSEWHERE;
-    if (tup_answer_first(answer) == 0)
-        return;
-    if (at->count == WAY)
-        differ("too many signals on their way");
-    unsigned last = (at->first + at->count++) % WAY;
-    at->way[last].cic = cic, at->way[last].heading = tup_answer_first(answer);
-}
-
-static void arrive(unsigned end)
-{
-    struct end *from = &ends[1 - end];
-    unsigned at = from->first;
-    if (from->count == 0)
-        return;
-    from->first = (at + 1) % WAY, from->count--;
-    event(end, from->way[at].cic, TUP_SIGNAL, from->way[at].heading);
-}
-
-static void release_due(unsigned end)
-{
-    for (uint32_t cic = 0; cic < GROUP; cic++)
-        if (tup_record_state(ends[end].table, cic) == TUP_OUT_SEIZED && ends[end].left[cic]-- == 0)
-            event(end, cic, TUP_COMMAND, TUP_RELEASE);
-}
-
-/* How many of the circuits that `owner` controls qualify in this end's table. */
-static unsigned free_of(unsigned end, unsigned owner)
-{
-    unsigned count = 0;
-    for (uint32_t cic = owner; cic < GROUP; cic += 2)
-        count += (unsigned)qualifies(ends[end].table, cic);
-    return count;
-}
-
-/* Whether the same circuits of `owner` are free at both ends, and their ranks, all different, stand in the same order. */
-static int in_one_order(unsigned owner)
-{
-    const uint8_t *a = ends[0].table, *b = ends[1].table;
-    for (uint32_t one = owner; one < GROUP; one += 2) {
-        if (qualifies(a, one) != qualifies(b, one))
-            return 0;
-        for (uint32_t other = owner; other < GROUP; other += 2) {
-            int before = tup_record_rank(a, one) < tup_record_rank(a, other);
-            int alike = before == (tup_record_rank(b, one) < tup_record_rank(b, other));
-            int equal = tup_record_rank(a, one) == tup_record_rank(a, other);
-            if (one != other && qualifies(a, one) && qualifies(a, other) && (equal || !alike))
-                return 0;
-        }
-    }
-    return 1;
-}
-
-/* The circuit that this end would take; GROUP for none. */
-static uint32_t choose(unsigned end)
-{
-    stand_at(end);
-    uint64_t answer = compare();
-    expect_laws(answer);
-    return answer == TUP_NO_CIRCUIT ? GROUP : tup_selected_circuit(answer);
-}
-
-static uint32_t lowest_free(unsigned end)
-{
-    uint32_t cic = 0;
-    while (cic < GROUP && !qualifies(ends[end].table, cic))
-        cic++;
-    return cic;
-}
-
-/* Both ends choose before either hears of the other. They can meet only where one of them has no circuit of its own left; and if
-   both have the other's circuits in one order, only on the last of those. */
-static void both_chose(const uint32_t *chosen)
-{
-    unsigned each_has_own = free_of(0, 0) > 0 && free_of(1, 1) > 0;
-    run.both++;
-    run.each_has_own += each_has_own;
-    run.lowest_met += lowest_free(0) == lowest_free(1);
-    if (chosen[0] != chosen[1])
-        return;
-    unsigned owner = chosen[0] % 2;
-    run.met++;
-    run.last_one += free_of(owner, owner) == 1;
-    if (each_has_own)
-        differ("both ends choose circuit %u, and each has one of its own", chosen[0]);
-    if (free_of(owner, owner) > 1 && in_one_order(owner))
-        differ("both ends choose circuit %u, and there are others of that end", chosen[0]);
-}
-
-/* How long calls last at most and how seldom one is made, in rounds, and how many signals arrive in a round at most. */
-static struct { unsigned longest, seldom, pace; } load;
-
-static void one_round(void)
-{
-    uint32_t chosen[2] = {GROUP, GROUP};
-    for (unsigned end = 0; end < 2; end++)
-        release_due(end);
-    for (unsigned i = draw(load.pace); i > 0; i--)
-        arrive(draw(2));
-    for (unsigned end = 0; end < 2; end++)
-        if (chance(load.seldom)) {
-            chosen[end] = choose(end);
-            run.none += chosen[end] == GROUP;
-        }
-    if (chosen[0] < GROUP && chosen[1] < GROUP)
-        both_chose(chosen);
-    for (unsigned end = 0; end < 2; end++)
-        if (chosen[end] < GROUP) {
-            event(end, chosen[end], TUP_COMMAND, TUP_SEIZE);
-            ends[end].left[chosen[end]] = draw(load.longest);
-            run.calls++;
-            run.theirs += chosen[end] % 2 != end;
-        }
-}
-
-static void two_ends(void)
-{
-    unsigned long rounds = long_run() ? 10000000 : 200000;
-    for (; run.rounds < rounds; run.rounds++) {
-        if (run.rounds % 500 == 0)
-            load.longest = 1 + draw(30), load.seldom = 1 + draw(8), load.pace = 2 + draw(30);
-        one_round();
-    }
-    expect_seen(run.each_has_own, "both ends choosing, each one of its own");
-    expect_seen(run.met, "both ends choosing the same circuit");
-    expect_seen(run.theirs, "a circuit of the other end taken");
-    expect_seen(run.yielded, "a dual seizure");
-    covered("two ends, %lu calls in %lu rounds, %lu on the other's circuits, none free %lu times, %lu dual seizures", run.calls,
-            run.rounds, run.theirs, run.none, run.yielded);
-    covered("both chose at once %lu times and met %lu times, %lu on the last one free; each had one of its own %lu times, and "
-            "then never met; by the lowest free number %lu would have met",
-            run.both, run.met, run.last_one, run.each_has_own, run.lowest_met);
-}
-
 int main(int argc, char **argv)
 {
     int all = argc > 1 && strcmp(argv[1], "all") == 0;
@@ -580,6 +417,5 @@ int main(int argc, char **argv)
     for (unsigned i = 0; i < 300; i++)
         drained(i % ORDERS);
     covered("%llu calls in all", calls);
-    two_ends();
     return 0;
 }
