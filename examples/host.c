@@ -1,6 +1,6 @@
 /* A small host: two exchanges in one process, joined by a link of two octet queues, with their timers on a wheel of seconds. It
-   shows what a host has to do around tup.h: lend a table, carry what is sent, run the clocks, and restart every circuit after a
-   restart of its own. The scenes print each message in its order. */
+   shows what a host has to do around tup.h: lend a table, have a circuit chosen and seize it, carry what is sent, run the clocks,
+   and restart every circuit after a restart of its own. The scenes print each message in its order. */
 #include "tup.h"
 
 #include <stdio.h>
@@ -140,6 +140,21 @@ static void command(struct exchange *x, uint32_t circuit, const char *what, uint
     event(x, circuit, what, TUP_COMMAND, code, detail);
 }
 
+/* A circuit for an outgoing call; CIRCUITS where there is none, and another route is to be tried. Nothing happens to the table
+   between the choice and the seizure. */
+static uint32_t take_circuit(struct exchange *x)
+{
+    uint64_t choice = tup_select(x->own, x->far, x->table, sizeof x->table);
+    uint32_t circuit = tup_selected_circuit(choice);
+    if (tup_selected_refusal(choice) != 0) {
+        printf("%4u s  %s wants a circuit: refused %u\n", seconds, x->name, tup_selected_refusal(choice));
+        return CIRCUITS;
+    }
+    printf("%4u s  %s wants a circuit: %u (%u looked at)\n", seconds, x->name, circuit, tup_selected_looked(choice));
+    command(x, circuit, "seizes", TUP_SEIZE, 0);
+    return circuit;
+}
+
 /* Takes the oldest message that the other exchange sent. */
 static void receive(struct exchange *x)
 {
@@ -203,20 +218,20 @@ static void restart(struct exchange *x)
 
 static void scene_call(struct exchange *a, struct exchange *b)
 {
-    printf("A call on circuit 2\n");
-    command(a, 2, "seizes", TUP_SEIZE, 0);
+    printf("A call from A\n");
+    uint32_t circuit = take_circuit(a);
     deliver_all();
     wait_seconds(2);
-    command(b, 2, "completes the address of", TUP_ADDRESS_COMPLETE, 5);
+    command(b, circuit, "completes the address of", TUP_ADDRESS_COMPLETE, 5);
     deliver_all();
     wait_seconds(6);
-    command(b, 2, "answers", TUP_ANSWER, 0);
+    command(b, circuit, "answers", TUP_ANSWER, 0);
     deliver_all();
     wait_seconds(90);
-    command(b, 2, "clears back", TUP_CLEAR_BACK, 0);
+    command(b, circuit, "clears back", TUP_CLEAR_BACK, 0);
     deliver_all();
     wait_seconds(5);
-    command(a, 2, "releases", TUP_RELEASE, 0);
+    command(a, circuit, "releases", TUP_RELEASE, 0);
     deliver_all();
 }
 
@@ -243,13 +258,14 @@ static void scene_lost_block(struct exchange *a, struct exchange *b)
 static void scene_restart(struct exchange *a, struct exchange *b)
 {
     printf("\nA restart of A in the middle of a call, its first resets lost\n");
-    command(b, 0, "seizes", TUP_SEIZE, 0);
+    uint32_t circuit = take_circuit(b);
     deliver_all();
-    command(a, 0, "completes the address of", TUP_ADDRESS_COMPLETE, 0);
+    command(a, circuit, "completes the address of", TUP_ADDRESS_COMPLETE, 0);
     deliver_all();
     a->unheard = 1;
     restart(a);
     a->unheard = 0;
+    take_circuit(a);
     wait_seconds(10);
 }
 

@@ -1,6 +1,6 @@
 /* Circuit control of one group of both-way TUP circuits, and the reader and the writer of its messages, for a host in C.
  *
- * What is proved. For every input, refused or not, the contracts of the three functions below determine the answer and the later
+ * What is proved. For every input, refused or not, the contracts of the four functions below determine the answer and the later
  * contents of all lent memory, and these are what document 01, as document 02 has changed it, says. The compiler, this header
  * and the host are outside the proof.
  *
@@ -100,7 +100,8 @@ enum tup_refusal {
     TUP_WRONG_ADDRESS = 10,
     TUP_OUTPUT_TOO_SHORT = 11,
     TUP_BAD_RECORD = 12,
-    TUP_COUNTER_FULL = 13 /* the event would free the circuit, and the counter is at 2^64 - 1 */
+    TUP_COUNTER_FULL = 13, /* the event would free the circuit, and the counter is at 2^64 - 1 */
+    TUP_NO_CIRCUIT = 14    /* of the choice: no circuit qualifies */
 };
 
 /* Heading octets, H0 + 16 * H1 of Q.723. From SEC on they are the failures. */
@@ -164,6 +165,14 @@ enum tup_timer {
 uint64_t tup_step(uint32_t own, uint32_t far, uint8_t *table, size_t table_len, uint32_t cic, uint32_t kind, uint32_t code,
                   uint32_t detail);
 
+/* Chooses the circuit for an outgoing call: Q.724 2.4, method 2. A circuit qualifies if it is idle and has no far block, that is,
+   if TUP_SEIZE would be taken there; our own block does not bar it. Of the qualifying circuits that we control it is the one of
+   the lowest rank, released longest ago; if there are none, of the others the one of the highest rank, released latest. Of equal
+   ranks the lower circuit number goes first. Nothing is seized and nothing written: the choice is good until the next event on
+   the table. Order of refusals: 1; 12 for a bad record anywhere in the table; 14 exactly if no circuit qualifies. The answer is
+   taken apart by the tup_selected_ functions below. Of all calls this is the one whose time grows with the table. */
+uint64_t tup_select(uint32_t own, uint32_t far, const uint8_t *table, size_t table_len);
+
 /* Reads the message of len octets, from its label on, in a group of count circuits. The answer is the refusal; read, the first
    TUP_MESSAGE_OCTETS octets of out are its fields and the rest of out keeps its contents; refused, all of out does.
    Order of refusals: 1; 7 under six octets; 8; 9; 7 by the heading; 10 for no signals; 7 by the count; 10 by the codes; 2; 11. */
@@ -185,6 +194,13 @@ static inline uint32_t tup_answer_flags(uint64_t answer) { return (uint32_t)(ans
 /* The headings sent, in their order; 0 for none. */
 static inline uint32_t tup_answer_first(uint64_t answer) { return (uint32_t)(answer >> 32 & 255u); }
 static inline uint32_t tup_answer_second(uint64_t answer) { return (uint32_t)(answer >> 40 & 255u); }
+
+/* The answer of tup_select; circuit and count are 0 on a refusal. The count is of the records looked at: the whole table, unless a
+   qualifying circuit of our own has rank 0. Then the first such circuit is the chosen one, and the count its number plus one. The
+   search for bad records comes before, is always of the whole table, and is not counted. */
+static inline uint32_t tup_selected_refusal(uint64_t answer) { return (uint32_t)(answer & 65535u); }
+static inline uint32_t tup_selected_circuit(uint64_t answer) { return (uint32_t)(answer >> 16 & 65535u); }
+static inline uint32_t tup_selected_looked(uint64_t answer) { return (uint32_t)(answer >> 32 & 65535u); }
 
 /* The answer of tup_write; the length is 0 on a refusal. */
 static inline uint32_t tup_written_refusal(uint32_t answer) { return answer & 255u; }

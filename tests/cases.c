@@ -1,6 +1,7 @@
 /* Cases written down by hand, each with the answer that document 01 gives: its own list (P1 to P10 and the ones to be run by a
    program), and one for each place where its words could be read in two ways; then those of release ranks and refusal 13, which
-   document 02's T-01 adds. They hold the archive, and the reference as well, to numbers that neither of them computed. */
+   document 02's T-01 adds, and of the choice of a circuit and refusal 14, which its T-02 adds. They hold the archive, and the
+   reference as well, to numbers that neither of them computed. */
 #include "harness.h"
 #include "reference.h"
 #include "tup.h"
@@ -152,6 +153,7 @@ static const struct rank_case {
 };
 
 typedef uint64_t (*stepper)(uint32_t, uint32_t, uint8_t *, size_t, uint32_t, uint32_t, uint32_t, uint32_t);
+typedef uint64_t (*selector)(uint32_t, uint32_t, const uint8_t *, size_t);
 typedef uint32_t (*reader)(uint32_t, uint32_t, uint32_t, const uint8_t *, size_t, uint8_t *, size_t);
 typedef uint32_t (*writer)(uint32_t, uint32_t, uint32_t, uint32_t, uint32_t, uint32_t, uint32_t, uint32_t, const uint8_t *, size_t,
                            uint8_t *, size_t);
@@ -275,6 +277,91 @@ static void run_roles(stepper step)
         }
 }
 
+/* A table of up to four circuits, and the choice in it. With own 2 circuits 0 and 2 are ours to control, with own 1 circuits 1
+   and 3. The numbered six go through the request sentence by sentence. */
+static const struct select_case {
+    const char *name;
+    uint32_t own, far, circuits;
+    struct { uint8_t state, flags; uint64_t rank; } records[4];
+    uint32_t refusal, circuit, looked;
+} select_cases[] = {
+    {"1: all idle, never freed", 2, 1, 4, {{0, 0, 0}}, 0, 0, 1},
+    {"2: one of ours never freed behind one that was", 2, 1, 4, {{0, 0, 7}, {0, 0, 0}, {0, 0, 0}}, 0, 2, 3},
+    {"3: none of ours: the latest of theirs", 2, 1, 4, {{1, 0, 0}, {0, 0, 5}, {9, 0, 0}, {0, 0, 9}}, 0, 3, 4},
+    {"4: none of ours: theirs never freed do not stop it", 2, 1, 4, {{1, 0, 0}, {0, 0, 0}, {9, 0, 0}}, 0, 1, 4},
+    {"5: a bad record behind the stop", 2, 1, 4, {{0, 0, 0}, {0, 0, 0}, {0, 0, 0}, {13, 0, 0}}, 12, 0, 0},
+    {"6: all blocked by the far end", 2, 1, 4, {{0, 2, 0}, {0, 2, 1}, {0, 3, 2}, {0, 10, 3}}, 14, 0, 0},
+    {"all idle, never freed, from the other end", 1, 2, 4, {{0, 0, 0}}, 0, 1, 2},
+    {"ours though theirs was freed earlier", 2, 1, 4, {{0, 0, 9}, {0, 0, 1}, {0, 0, 8}, {0, 0, 0}}, 0, 2, 4},
+    {"ours freed longest ago, from the other end", 1, 2, 4, {{0, 0, 1}, {0, 0, 9}, {0, 0, 0}, {0, 0, 8}}, 0, 3, 4},
+    {"equal ranks of ours", 2, 1, 4, {{0, 0, 5}, {0, 0, 5}, {0, 0, 5}, {0, 0, 5}}, 0, 0, 4},
+    {"equal ranks of theirs", 2, 1, 4, {{5, 0, 5}, {0, 0, 5}, {12, 0, 5}, {0, 0, 5}}, 0, 1, 4},
+    {"theirs freed latest comes first", 1, 2, 4, {{0, 0, 6}, {1, 0, 0}, {0, 0, 5}, {1, 0, 0}}, 0, 0, 4},
+    {"theirs never freed behind one that was", 1, 2, 4, {{0, 0, 1}, {1, 0, 0}, {0, 0, 0}, {1, 0, 0}}, 0, 0, 4},
+    {"the first of ours never freed, not the last", 1, 2, 4, {{0, 0, 0}, {0, 0, 3}, {0, 0, 0}, {0, 0, 0}}, 0, 3, 4},
+    {"one circuit, ours", 2, 1, 1, {{0, 0, 0}}, 0, 0, 1},
+    {"one circuit, ours, freed once", 2, 1, 1, {{0, 0, 1}}, 0, 0, 1},
+    {"one circuit, theirs", 1, 2, 1, {{0, 0, 0}}, 0, 0, 1},
+    {"our own block does not bar it", 2, 1, 2, {{0, 1, 0}, {0, 0, 0}}, 0, 0, 1},
+    {"nor does a block or an unblocking not yet acknowledged", 2, 1, 4, {{0, 5, 4}, {1, 0, 0}, {0, 8, 3}}, 0, 2, 4},
+    {"a far block does, beside our own", 2, 1, 4, {{0, 3, 0}, {0, 7, 0}, {0, 10, 0}, {0, 1, 0}}, 0, 3, 4},
+    {"a far-blocked circuit never freed does not stop it", 2, 1, 4, {{0, 2, 0}, {1, 0, 0}, {0, 0, 9}, {0, 0, 0}}, 0, 2, 4},
+    {"a busy circuit never freed does not stop it", 2, 1, 4, {{1, 0, 0}, {1, 0, 0}, {0, 0, 9}, {0, 0, 0}}, 0, 2, 4},
+    {"every other state bars it", 2, 1, 4, {{1, 0, 0}, {5, 0, 0}, {11, 0, 0}, {12, 0, 0}}, 14, 0, 0},
+    {"awaiting reset with far block is no bad record", 2, 1, 2, {{12, 2, 0}, {12, 0, 0}}, 14, 0, 0},
+    {"12 comes before 14: state", 2, 1, 2, {{1, 0, 0}, {13, 0, 0}}, 12, 0, 0},
+    {"12 comes before 14: flags", 2, 1, 2, {{0, 2, 0}, {0, 6, 0}}, 12, 0, 0},
+    {"a bad record that is in no way idle", 2, 1, 2, {{0, 0, 0}, {255, 0, 0}}, 12, 0, 0},
+    {"a bad record of flags alone", 2, 1, 2, {{0, 0, 0}, {0, 16, 0}}, 12, 0, 0},
+    {"own block in 12", 2, 1, 2, {{0, 0, 0}, {12, 1, 0}}, 12, 0, 0},
+    {"the largest rank is the latest of theirs", 1, 2, 4, {{0, 0, FULL / 2}, {6, 0, 0}, {0, 0, FULL}, {6, 0, 0}}, 0, 2, 4},
+    {"the largest rank is the last of ours", 2, 1, 4, {{0, 0, FULL}, {6, 0, 0}, {0, 0, FULL / 2 + 1}, {6, 0, 0}}, 0, 2, 4},
+    {"the largest rank, where it is alone", 2, 1, 4, {{0, 0, FULL}, {0, 0, 0}, {6, 0, 0}, {0, 0, 0}}, 0, 0, 4},
+};
+
+static void run_select_case(selector select, const struct select_case *c)
+{
+    uint8_t table[TUP_TABLE_OCTETS(4)], kept[sizeof table];
+    case_now = c->name;
+    for (int full = 0; full < 2; full++) { /* the counter is not looked at */
+        put_eight(table, full ? FULL : 0);
+        for (uint32_t cic = 0; cic < 4; cic++) {
+            uint8_t *record = table + TUP_RECORD_AT(cic);
+            record[TUP_RECORD_STATE] = c->records[cic].state;
+            record[TUP_RECORD_FLAGS] = c->records[cic].flags;
+            put_eight(record + TUP_RECORD_RANK, c->records[cic].rank);
+        }
+        memcpy(kept, table, sizeof table);
+        uint64_t answer = select(c->own, c->far, table, TUP_TABLE_OCTETS(c->circuits));
+        expect("the refusal", tup_selected_refusal(answer), c->refusal);
+        expect("the circuit", tup_selected_circuit(answer), c->circuit);
+        expect("the count", tup_selected_looked(answer), c->looked);
+        expect("the answer", answer, c->refusal + 0x10000 * (uint64_t)c->circuit + 0x100000000 * (uint64_t)c->looked);
+        for (size_t i = 0; i < sizeof table; i++)
+            expect("an octet of the table", table[i], kept[i]);
+    }
+}
+
+/* Where states, flags and ranks lie, counted out: of circuits 0 and 2, both ours, the latter has the lower rank. */
+static void run_select_layout(selector select)
+{
+    static const uint8_t table[38] = {0, 0, 0, 0, 0, 0, 0, 0, 0, 0, 1, 0, 0, 0, 0, 0, 0, 2, 3, 0,
+                                      0, 0, 0, 0, 0, 0, 0, 0, 0, 1, 2, 0, 0, 0, 0, 0, 0, 1};
+    case_now = "the layout of a table of three";
+    expect("the answer", select(2, 1, table, 38), 0x0000000300020000);
+}
+
+/* The group: a table of zeros is all idle, and in one of octets 255 every record is bad. */
+static void run_select_group(selector select, const struct group_case *c)
+{
+    static uint8_t table[TUP_TABLE_OCTETS(TUP_CIRCUITS_MAX + 1)];
+    case_now = c->name;
+    memset(table, 0, sizeof table);
+    expect("the answer", select(c->own, c->far, table, c->len), c->refusal == 1 ? 1 : 0x0000000100000000);
+    memset(table, 255, sizeof table);
+    expect("the answer for bad records", select(c->own, c->far, table, c->len), c->refusal == 1 ? 1 : 12);
+}
+
 /* Messages read at own 1, far 2. `text` is hexadecimal; the fields follow where it is taken. */
 static const struct read_case {
     const char *name, *text;
@@ -382,7 +469,7 @@ static void run_write_case(writer write, const struct write_case *c)
         expect("an octet of the output", out[i], kept[i]);
 }
 
-static void run_all(stepper step, reader read, writer write)
+static void run_all(stepper step, selector select, reader read, writer write)
 {
     for (size_t i = 0; i < sizeof step_cases / sizeof *step_cases; i++)
         run_plain_case(step, step_cases + i);
@@ -392,6 +479,11 @@ static void run_all(stepper step, reader read, writer write)
     for (size_t i = 0; i < sizeof group_cases / sizeof *group_cases; i++)
         run_group_case(step, group_cases + i);
     run_roles(step);
+    for (size_t i = 0; i < sizeof select_cases / sizeof *select_cases; i++)
+        run_select_case(select, select_cases + i);
+    run_select_layout(select);
+    for (size_t i = 0; i < sizeof group_cases / sizeof *group_cases; i++)
+        run_select_group(select, group_cases + i);
     for (size_t i = 0; i < sizeof read_cases / sizeof *read_cases; i++)
         run_read_case(read, read_cases + i);
     for (size_t i = 0; i < sizeof write_cases / sizeof *write_cases; i++)
@@ -401,11 +493,12 @@ static void run_all(stepper step, reader read, writer write)
 int main(void)
 {
     harness_begin("cases (the reference)", describe);
-    run_all(ref_step, ref_read, ref_write);
+    run_all(ref_step, ref_select, ref_read, ref_write);
     harness_begin("cases", describe);
-    run_all(tup_step, tup_read, tup_write);
-    covered("%zu events, %zu with ranks, %zu groups, %zu messages read and %zu written", sizeof step_cases / sizeof *step_cases,
-            sizeof rank_cases / sizeof *rank_cases, sizeof group_cases / sizeof *group_cases,
+    run_all(tup_step, tup_select, tup_read, tup_write);
+    covered("%zu events, %zu with ranks, %zu groups, %zu choices, %zu messages read and %zu written",
+            sizeof step_cases / sizeof *step_cases, sizeof rank_cases / sizeof *rank_cases,
+            sizeof group_cases / sizeof *group_cases, sizeof select_cases / sizeof *select_cases,
             sizeof read_cases / sizeof *read_cases, sizeof write_cases / sizeof *write_cases);
     return 0;
 }

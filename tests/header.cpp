@@ -5,6 +5,7 @@ int main()
 {
     uint8_t table[TUP_TABLE_OCTETS(2)] = {};
     uint8_t octets[TUP_MESSAGE_MAX], fields[TUP_MESSAGE_OCTETS];
+    uint64_t chosen = tup_select(1, 2, table, sizeof table);
     uint64_t answer = tup_step(2, 1, table, sizeof table, 1, TUP_COMMAND, TUP_SEIZE, 0);
     const uint8_t address[] = {1, 2, 3};
     uint32_t written = tup_write(2, 1, 2, 1, tup_answer_first(answer), 0, 10, 2, address, sizeof address, octets, sizeof octets);
@@ -12,6 +13,8 @@ int main()
     tup_step(2, 1, table, sizeof table, 0, TUP_SIGNAL, TUP_IAM, 0);
     tup_step(2, 1, table, sizeof table, 0, TUP_SIGNAL, TUP_CLF, 0);
     if (tup_counter(table) != 1 || tup_record_rank(table, 0) != 1 || tup_record_rank(table, 1) != 0)
+        return 1;
+    if (tup_selected_refusal(chosen) != TUP_ACCEPTED || tup_selected_circuit(chosen) != 1 || tup_selected_looked(chosen) != 2)
         return 1;
     return tup_record_state(table, 1) == TUP_OUT_SEIZED && refusal == TUP_ACCEPTED && fields[TUP_MESSAGE_COUNT] == 3 ? 0 : 1;
 }

@@ -1,5 +1,5 @@
 /* The rules of document 01 in the order of its sections: events on a record, messages on the link, the replay of a trace. What
-   document 02's T-01 adds on release ranks stands behind the events. */
+   document 02 adds stands behind the events: T-01's release ranks and T-02's choice of a circuit. */
 #include "reference.h"
 
 #include <string.h>
@@ -42,15 +42,13 @@ static int group_good(uint32_t own, uint32_t far, size_t count)
     return own < POINT_CODES && far < POINT_CODES && own != far && count >= 1 && count <= CIRCUITS;
 }
 
+/* The flags allowed, a bit for each number that they may make: 4 needs 1, 8 needs 1 absent; in state 12 only 2 may be set. As bits
+   they are tested at once, which tells where a whole table is judged. */
+enum { ALLOWED = 1 << 0 | 1 << 1 | 1 << 2 | 1 << 3 | 1 << 5 | 1 << 7 | 1 << 8 | 1 << 10, ALLOWED_IN_12 = 1 << 0 | 1 << 2 };
+
 static int record_good(unsigned state, unsigned flags)
 {
-    if (state > AWAITING_RESET || flags > 15)
-        return 0;
-    if (state == AWAITING_RESET)
-        return (flags & ~(unsigned)FAR) == 0;
-    if (flags & OWN)
-        return !(flags & AWAITING_UBA);
-    return !(flags & AWAITING_BLA);
+    return state <= AWAITING_RESET && flags <= 15 && ((state == AWAITING_RESET ? ALLOWED_IN_12 : ALLOWED) >> flags & 1);
 }
 
 static int is_failure(uint32_t heading)
@@ -379,6 +377,74 @@ uint64_t ref_step(uint32_t own, uint32_t far, uint8_t *table, size_t table_len, 
     record[0] = (uint8_t)(given >> 16);
     record[1] = (uint8_t)(given >> 24);
     return given & ~FREES;
+}
+
+/* The choice of a circuit. */
+
+static int all_good(const uint8_t *records, size_t count)
+{
+    for (size_t i = 0; i < count; i++)
+        if (!record_good(records[i * REF_RECORD_OCTETS], records[i * REF_RECORD_OCTETS + 1]))
+            return 0;
+    return 1;
+}
+
+static int qualifies(const uint8_t *record)
+{
+    return record[0] == IDLE && !(record[1] & FAR);
+}
+
+/* Every second circuit from the first on is one end's. The qualifying one of lowest rank, `count` for none; a rank of 0, below
+   which there is none, ends the search. */
+static size_t longest_free(const uint8_t *records, size_t count, size_t first)
+{
+    size_t chosen = count;
+    uint64_t lowest = UINT64_MAX;
+    for (size_t i = first; i < count && lowest > 0; i += 2) {
+        const uint8_t *record = records + i * REF_RECORD_OCTETS;
+        if (!qualifies(record))
+            continue;
+        uint64_t rank = eight(record + 2);
+        if (chosen == count || rank < lowest)
+            chosen = i, lowest = rank;
+    }
+    return chosen;
+}
+
+static size_t latest_freed(const uint8_t *records, size_t count, size_t first)
+{
+    size_t chosen = count;
+    uint64_t highest = 0;
+    for (size_t i = first; i < count; i += 2) {
+        const uint8_t *record = records + i * REF_RECORD_OCTETS;
+        if (!qualifies(record))
+            continue;
+        uint64_t rank = eight(record + 2);
+        if (chosen == count || rank > highest)
+            chosen = i, highest = rank;
+    }
+    return chosen;
+}
+
+static uint64_t selected(size_t circuit, size_t looked)
+{
+    return (uint64_t)circuit << 16 | (uint64_t)looked << 32;
+}
+
+uint64_t ref_select(uint32_t own, uint32_t far, const uint8_t *table, size_t table_len)
+{
+    size_t count = circuits_of(table_len);
+    if (!group_good(own, far, count))
+        return 1;
+    const uint8_t *records = table + REF_COUNTER_OCTETS;
+    if (!all_good(records, count))
+        return 12;
+    size_t first_of_ours = own > far ? 0 : 1;
+    size_t ours = longest_free(records, count, first_of_ours);
+    if (ours < count)
+        return selected(ours, eight(records + ours * REF_RECORD_OCTETS + 2) == 0 ? ours + 1 : count);
+    size_t theirs = latest_freed(records, count, 1 - first_of_ours);
+    return theirs < count ? selected(theirs, count) : 14;
 }
 
 /* Messages on the link. */

@@ -1,5 +1,5 @@
-/* A second reading of document 01, and of document 02's T-01 on release ranks, in plain C, that the tests hold the proved archive
-   against and the benchmark measures it by.
+/* A second reading of document 01, and of document 02's T-01 and T-02 on release ranks and the choice of a circuit, in plain C,
+   that the tests hold the proved archive against and the benchmark measures it by.
    It takes the same arguments as the functions of tup.h and gives the same packed answers, but shares no line with them. */
 #ifndef REFERENCE_H
 #define REFERENCE_H
@@ -15,6 +15,7 @@
 
 uint64_t ref_step(uint32_t own, uint32_t far, uint8_t *table, size_t table_len, uint32_t cic, uint32_t kind, uint32_t code,
                   uint32_t detail);
+uint64_t ref_select(uint32_t own, uint32_t far, const uint8_t *table, size_t table_len);
 uint32_t ref_read(uint32_t own, uint32_t far, uint32_t count, const uint8_t *octets, size_t len, uint8_t *out, size_t out_len);
 uint32_t ref_write(uint32_t own, uint32_t far, uint32_t count, uint32_t cic, uint32_t heading, uint32_t acm, uint32_t category,
                    uint32_t indicators, const uint8_t *address, size_t address_len, uint8_t *out, size_t out_len);
