@@ -1,10 +1,10 @@
 -- A group (document 01, "Group, records, numbers"): which are refused 1, and which end controls a circuit.
 -- Assumes nothing.
-use mathlib.Core.Path.{_≡_, refl}
+use mathlib.Core.Path.{_≡_, refl, subst}
 use mathlib.Core.Bool.{Bool, true, false, not, cond, _||_}
 use Prim.Native.Nat.{ℕ, zero, suc, _%_, _<_, _≤_}
 use native.Mathlib.Omega.{arith}
-use lib.Dec.{eqb, ltb}
+use lib.Dec.{T, eqb, ltb}
 use borrow.Author.Tests.{ltb-true, ltb-false, lt-ltb, le-ltb}
 
 -- a point code is 0..16383
@@ -14,6 +14,21 @@ badCode code = ltb 16383 code
 -- refusal 1: a point code above 16383, codes equal, or 0 or more than 4096 records
 abbrev pub badGroup : ℕ → ℕ → ℕ → Bool
 badGroup own far records = badCode own || badCode far || eqb own far || (eqb records 0 || ltb 4096 records)
+
+-- four tests, none of which holds
+pub none : (a b c d : Bool) → (a || b || c || d) ≡ false → (a ≡ false) × (b ≡ false) × (c ≡ false) × (d ≡ false)
+none true b c d e = absurd (subst T e tt)
+none false true c d e = absurd (subst T e tt)
+none false false true d e = absurd (subst T e tt)
+none false false false d e = (refl, refl, refl, e)
+
+-- a group that is taken has at most 4096 records
+pub atMost4096 : (own far records : ℕ) → badGroup own far records ≡ false → records ≤ 4096
+atMost4096 own far records e = go (eqb records 0) (none (badCode own) (badCode far) (eqb own far) _ e .3)
+  where
+    go : (b : Bool) → (b || ltb 4096 records) ≡ false → records ≤ 4096
+    go true d = absurd (subst T d tt)
+    go false d = ltb-false 4096 records d
 
 -- the exchange with the higher point code is controlling for even circuits, the other for odd ones (Q.724, 2.5)
 abbrev pub controls : ℕ → ℕ → ℕ → Bool

@@ -1,13 +1,13 @@
 -- What the refusals leave where none is given: the tests of a group and of a message, one by one.
 -- Assumes nothing.
-use mathlib.Core.Path.{_≡_, refl, sym, subst}
+use mathlib.Core.Path.{_≡_, refl, sym}
 use mathlib.Core.Bool.{Bool, true, false, _||_}
 use mathlib.Core.List.{[], _∷_}
 use Prim.Native.Nat.{ℕ, _<_, _≤_}
 use native.Mathlib.Omega.{arith}
 use borrow.Author.Tests.{ltb-false, eqb-false, ne-eqb}
-use lib.Dec.{T, eqb, ltb}
-use Rattle.circuit.specs.Groups.{badCode, badGroup}
+use lib.Dec.{eqb, ltb}
+use Rattle.circuit.specs.Groups.{badCode, badGroup, none}
 use Rattle.link.specs.Refusals.{refuse, firstOf}
 
 -- six tests, none of which holds
@@ -30,12 +30,6 @@ module _ {n₀ n₁ n₂ n₃ n₄ n₅ : ℕ} (p₀ : 0 < n₀) (p₁ : 0 < n�
   clear false false false false true b₅ e = absurd (omega arith)
   clear false false false false false true e = absurd (omega arith)
   clear false false false false false false e = record { t₀ = refl; t₁ = refl; t₂ = refl; t₃ = refl; t₄ = refl; t₅ = refl }
-
-pub none : (a b c d : Bool) → (a || b || c || d) ≡ false → (a ≡ false) × (b ≡ false) × (c ≡ false) × (d ≡ false)
-none true b c d e = absurd (subst T e tt)
-none false true c d e = absurd (subst T e tt)
-none false false true d e = absurd (subst T e tt)
-none false false false d e = (refl, refl, refl, e)
 
 -- a group that is taken has two codes in range
 pub inRange : (own far records : ℕ) → badGroup own far records ≡ false → (own < 16384) × (far < 16384)

@@ -1,28 +1,361 @@
--- The search for a circuit, as the program makes it: what it holds on the way.
+-- The search for a circuit, as the program makes it: what it holds on the way, and that it comes to the definition's answer.
 -- Assumes nothing.
+use mathlib.Core.Path.{_≡_, refl, sym, ap, _∙_, subst}
 use mathlib.Core.Bool.{Bool, true, false, not, cond, _&&_, _||_}
 use mathlib.Core.List.{List}
-use Prim.Native.Nat.{ℕ}
-use lib.Dec.{ltb}
-use Rattle.layout.specs.Layout.{allowedAt}
-use Rattle.select.specs.declared.Best.{Best}
+use Prim.Native.Nat.{ℕ, suc, _+_, _<_, _≤_}
+use native.Mathlib.Omega.{arith}
+use lib.Dec.{T, eqb, leb, ltb, not-T}
+use borrow.Author.Tests.{not-true, not-false, eqb-true, eqb-false, eq-eqb, ne-eqb, leb-true, leb-false, le-leb, lt-leb, ltb-true, ltb-false, lt-ltb, le-ltb}
+use lib.ListN.{length}
+use Rattle.circuit.specs.Groups.{badGroup, controls}
+use Rattle.circuit.specs.Every.{left, right, both, isTrue}
+use Rattle.layout.specs.declared.Stored.{Stored}
+use Rattle.layout.specs.Layout.{recordsIn, stateAt, flagsAt, rankAt, allowed, allowedAt, storedAt}
+use Rattle.select.specs.declared.Candidate.{Candidate}
 use Rattle.select.specs.declared.Selected.{Selected}
-use Rattle.select.specs.First.{some}
-use Rattle.select.specs.Selection.{refused, taken}
+use Rattle.select.specs.First.{first, some, best, firstAt, firstSame, someAt, noneOf, Best, Order, theBest, starts, takes, stays, withLast}
+use Rattle.select.specs.Selection.{refused, taken, free, ours, theirs, earlier, later, stops, looked, choice, bad, selectIn}
 
-abbrev pub allAllowed : List ℕ → (n : ℕ) → Bool
-allAllowed table n = not (some n (λ i. not (allowedAt table i)))
+-- a bad record from one on
+abbrev pub badFrom : List ℕ → (from : ℕ) → ℕ → Bool
+badFrom table from i = leb from i && bad table i
 
-abbrev pub none : Best
+abbrev pub none : Candidate
 none = record { found = false; cic = 0; rank = 0 }
 
 -- a rank goes before another: of our own the lower one, of theirs the higher one
 abbrev pub before : (own : Bool) → (a b : ℕ) → Bool
 before own a b = cond own (ltb a b) (ltb b a)
 
--- the best so far, and the next one if it is one of them
-abbrev pub better : (own among : Bool) → Best → (cic rank : ℕ) → Best
-better own among b cic rank = cond (among && (not (b .found) || before own rank (b .rank))) (record { found = true; cic = cic; rank = rank }) b
+-- the best so far and a later one
+abbrev pub better : (own : Bool) → Candidate → (cic rank : ℕ) → Candidate
+better own b cic rank = cond (not (b .found) || before own rank (b .rank)) (record { found = true; cic = cic; rank = rank }) b
 
-abbrev pub concluded : (ours theirs : Best) → (n : ℕ) → Selected
+-- where the search stops, and where it has looked at n records
+abbrev pub stopped : List ℕ → (cic looked n : ℕ) → Selected
+stopped table cic looked n = cond (some n (badFrom table looked)) (refused 12) (taken cic looked)
+
+abbrev pub concluded : (ours theirs : Candidate) → (n : ℕ) → Selected
 concluded ours theirs n = cond (ours .found) (taken (ours .cic) n) (cond (theirs .found) (taken (theirs .cic) n) (refused 14))
+
+-- the whole search in n records
+abbrev pub searched : (own far : ℕ) → List ℕ → (n : ℕ) → Selected
+searched own far table n = cond (some n (bad table)) (refused 12) (choice own far table n)
+
+-- the group is refused, or searched
+module _ (own far : ℕ) (table : List ℕ) where
+  pub noGroup : badGroup own far (recordsIn (length table)) ≡ true → refused 1 ≡ selectIn own far table
+  unfolding selectIn
+  noGroup bad = rw bad
+
+  pub inGroup : badGroup own far (recordsIn (length table)) ≡ false → searched own far table (recordsIn (length table)) ≡ selectIn own far table
+  unfolding selectIn
+  inGroup good = rw good
+
+-- what the program reads of a record
+module _ (table : List ℕ) (i : ℕ) {s : Stored} (e : s ≡ storedAt table i) where
+  pub judged : {b : Bool} → b ≡ allowed (s .state) (s .flags) → allowedAt table i ≡ b
+  judged d = sym (rw e at d)
+
+  pub freeAt : {b : Bool} → b ≡ free (s .state) (s .flags) → free (stateAt table i) (flagsAt table i) ≡ b
+  freeAt d = sym (rw e at d)
+
+  pub rankIs : s .rank ≡ rankAt table i
+  rankIs = rw e
+
+-- no bad record from one up to another
+pub record GoodFrom (table : List ℕ) (from i : ℕ) : Type 0 where
+  pub begun : from ≤ i
+  pub good : (j : ℕ) → from ≤ j → j < i → T (bad table j) → ⊥
+
+module _ (table : List ℕ) (from : ℕ) where
+  pub goodStart : GoodFrom table from from
+  goodStart = record { begun = omega arith; good = λ j p q t. omega arith }
+
+  pub goodNext : {i : ℕ} → GoodFrom table from i → allowedAt table i ≡ true → GoodFrom table from (i + 1)
+  goodNext {i} g ok =
+      let l : from ≤ i = g .begun in
+      record { begun = omega arith; good = λ j p q. withLast i (λ j. from ≤ j → T (bad table j) → ⊥) (λ j h p. g .good j p h) (λ p t. rw ok at t) j (omega arith) p }
+
+  pub goodNot : {i n : ℕ} → GoodFrom table from i → i < n → allowedAt table i ≡ false → false ≡ not (some n (badFrom table from))
+  goodNot {i} {n} g h e = rw (someAt n (badFrom table from) i h (both (leb from i) _ (rw (le-leb from i (g .begun)) tt) (rw e tt)))
+
+  pub goodEnd : {i n : ℕ} → GoodFrom table from i → n ≤ i → true ≡ not (some n (badFrom table from))
+  goodEnd {i} {n} g h =
+      rw (noneOf n (badFrom table from) (λ j l t. g .good j (leb-true from j (isTrue _ (left (leb from j) _ t))) (omega arith) (right (leb from j) _ t)))
+
+module _ (table : List ℕ) (cic looked n : ℕ) {b : Bool} (e : b ≡ not (some n (badFrom table looked))) where
+  pub stopGood : b ≡ true → taken cic looked ≡ stopped table cic looked n
+  stopGood d = rw (not-true (some n (badFrom table looked)) (sym e ∙ d))
+
+  pub stopBad : b ≡ false → refused 12 ≡ stopped table cic looked n
+  stopBad d = rw (not-false (some n (badFrom table looked)) (sym e ∙ d))
+
+-- by rank, and of equal ranks by number
+abbrev ahead : (lt : ℕ → ℕ → Bool) → (a b i j : ℕ) → Bool
+ahead lt a b i j = lt a b || (eqb a b && leb i j)
+
+abbrev pub goes : (own : Bool) → List ℕ → (i j : ℕ) → Bool
+goes own table i j = ahead (before own) (rankAt table i) (rankAt table j) i j
+
+-- this is an order, whichever way the ranks go
+record Strict (lt : ℕ → ℕ → Bool) : Type 0 where
+  never : (a : ℕ) → T (lt a a) → ⊥
+  through : (a b c : ℕ) → T (lt a b) → T (lt b c) → T (lt a c)
+  either : (a b : ℕ) → (T (lt a b) → ⊥) → (a ≡ b → ⊥) → T (lt b a)
+
+lower : (a b : ℕ) → T (ltb a b) → a < b
+lower a b t = ltb-true a b (isTrue _ t)
+
+isLower : (a b : ℕ) → a < b → T (ltb a b)
+isLower a b h = rw (lt-ltb a b h) tt
+
+notLower : (a b : ℕ) → (T (ltb a b) → ⊥) → b ≤ a
+notLower a b n = go (ltb a b) refl
+  where
+    go : (t : Bool) → ltb a b ≡ t → b ≤ a
+    go true e = absurd (n (rw e tt))
+    go false e = ltb-false a b e
+
+strict : (own : Bool) → Strict (before own)
+strict true =
+    record {
+      never = λ a t. omega (arith, lower a a t);
+      through = λ a b c s t. isLower a c (omega (arith, lower a b s, lower b c t));
+      either = λ a b n d. let h : b ≤ a = notLower a b n in isLower b a (omega arith);
+    }
+strict false =
+    record {
+      never = λ a t. omega (arith, lower a a t);
+      through = λ a b c s t. isLower c a (omega (arith, lower b a s, lower c b t));
+      either = λ a b n d. let h : a ≤ b = notLower b a n in isLower a b (omega arith);
+    }
+
+data Ahead (lt : ℕ → ℕ → Bool) (a b i j : ℕ) : Type 0 where
+  byRank : T (lt a b) → Ahead lt a b i j
+  byNumber : a ≡ b → i ≤ j → Ahead lt a b i j
+
+view : (lt : ℕ → ℕ → Bool) (a b i j : ℕ) → T (ahead lt a b i j) → Ahead lt a b i j
+view lt a b i j t = go (lt a b) refl t
+  where
+    go : (p : Bool) → lt a b ≡ p → T (p || (eqb a b && leb i j)) → Ahead lt a b i j
+    go true e t = byRank (rw e tt)
+    go false e t = byNumber (eqb-true a b (isTrue _ (left (eqb a b) _ t))) (leb-true i j (isTrue _ (right (eqb a b) _ t)))
+
+aheadIs : (lt : ℕ → ℕ → Bool) (a b i j : ℕ) → Ahead lt a b i j → T (ahead lt a b i j)
+aheadIs lt a b i j (byRank t) = go (lt a b) t
+  where
+    go : (p : Bool) → T p → T (p || (eqb a b && leb i j))
+    go true t = tt
+    go false t = absurd t
+aheadIs lt a b i j (byNumber e h) = go (lt a b)
+  where
+    go : (p : Bool) → T (p || (eqb a b && leb i j))
+    go true = tt
+    go false = both (eqb a b) _ (rw (eq-eqb a b e) tt) (rw (le-leb i j h) tt)
+
+module _ {lt : ℕ → ℕ → Bool} (s : Strict lt) (rank : ℕ → ℕ) where
+  abbrev by : ℕ → ℕ → Bool
+  by i j = ahead lt (rank i) (rank j) i j
+
+  seen : (i j : ℕ) → T (by i j) → Ahead lt (rank i) (rank j) i j
+  seen i j t = view lt (rank i) (rank j) i j t
+
+  is : (i j : ℕ) → Ahead lt (rank i) (rank j) i j → T (by i j)
+  is i j a = aheadIs lt (rank i) (rank j) i j a
+
+  ordered : Order by
+  ordered = record { same = λ i. is i i (byNumber refl (omega arith)); through = λ i j k p q. is i k (through i j k (seen i j p) (seen j k q)); either = either; once = λ i j p q. once i j (seen i j p) (seen j i q) }
+    where
+      through : (i j k : ℕ) → Ahead lt (rank i) (rank j) i j → Ahead lt (rank j) (rank k) j k → Ahead lt (rank i) (rank k) i k
+      through i j k (byRank p) (byRank q) = byRank (s .through (rank i) (rank j) (rank k) p q)
+      through i j k (byRank p) (byNumber e h) = byRank (rw (← e) p)
+      through i j k (byNumber e h) (byRank q) = byRank (rw e q)
+      through i j k (byNumber e h) (byNumber d g) = byNumber (e ∙ d) (omega arith)
+
+      either : (i j : ℕ) → (T (by i j) → ⊥) → T (by j i)
+      either i j n = go (eqb (rank i) (rank j)) refl (leb i j) refl
+        where
+          go : (a : Bool) → eqb (rank i) (rank j) ≡ a → (b : Bool) → leb i j ≡ b → T (by j i)
+          go true e true d = absurd (n (is i j (byNumber (eqb-true _ _ e) (leb-true i j d))))
+          go true e false d = let h : j < i = leb-false i j d in is j i (byNumber (sym (eqb-true _ _ e)) (omega arith))
+          go false e b d = is j i (byRank (s .either (rank i) (rank j) (λ t. n (is i j (byRank t))) (eqb-false _ _ e)))
+
+      once : (i j : ℕ) → Ahead lt (rank i) (rank j) i j → Ahead lt (rank j) (rank i) j i → i ≡ j
+      once i j (byRank p) (byRank q) = absurd (s .never (rank i) (s .through (rank i) (rank j) (rank i) p q))
+      once i j (byRank p) (byNumber e h) = absurd (s .never (rank i) (rw e at p))
+      once i j (byNumber e h) (byRank q) = absurd (s .never (rank j) (rw e at q))
+      once i j (byNumber e h) (byNumber d g) = omega arith
+
+pub order : (own : Bool) (table : List ℕ) → Order (goes own table)
+order own table = ordered (strict own) (rankAt table)
+
+-- what the search holds after n records: no candidate where none of them is among them, else the best of them
+pub record Held (own : Bool) (table : List ℕ) (among : ℕ → Bool) (n : ℕ) (c : Candidate) : Type 0 where
+  pub none : c .found ≡ false → (j : ℕ) → j < n → T (among j) → ⊥
+  pub best : c .found ≡ true → Best among (goes own table) n (c .cic)
+  pub rank : c .found ≡ true → c .rank ≡ rankAt table (c .cic)
+
+differ : false ≡ true → ⊥
+differ e = subst (λ (b : Bool). T (not b)) e tt
+
+module _ (own : Bool) (table : List ℕ) (among : ℕ → Bool) where
+  heldNone : Held own table among 0 none
+  heldNone = record { none = λ e j h t. omega arith; best = λ e. absurd (differ e); rank = λ e. absurd (differ e) }
+
+  -- a record that is not among them
+  heldPast : (n : ℕ) (c : Candidate) → Held own table among n c → (T (among n) → ⊥) → Held own table among (suc n) c
+  heldPast n c h past = record { none = λ e. withLast n (λ j. T (among j) → ⊥) (h .none e) past; best = λ e. stays (order own table) (h .best e) (λ t. absurd (past t)); rank = h .rank }
+
+  -- one that is
+  heldNext : (n rank : ℕ) (c : Candidate) → Held own table among n c → T (among n) → rank ≡ rankAt table n → Held own table among (suc n) (better own c n rank)
+  heldNext n rank c h t r = go (c .found) refl
+    where
+      new : Candidate
+      new = record { found = true; cic = n; rank = rank }
+
+      starting : c .found ≡ false → Held own table among (suc n) new
+      starting e = record { none = λ d. absurd (differ (sym d)); best = λ d. starts (order own table) (h .none e) t; rank = λ d. r }
+
+      against : c .found ≡ true → (b : Bool) → before own rank (c .rank) ≡ b → Held own table among (suc n) (cond b new c)
+      against e true d =
+          record {
+            none = λ d. absurd (differ (sym d));
+            best = λ q. takes (order own table) (h .best e) t (aheadIs (before own) (rankAt table n) (rankAt table (c .cic)) n (c .cic) (byRank (rw (← r, ← h .rank e, d) tt)));
+            rank = λ q. r;
+          }
+      against e false d =
+          record {
+            none = λ q. absurd (differ (sym q ∙ e));
+            best = λ q. stays (order own table) (h .best e) (λ s. behind e d);
+            rank = h .rank;
+          }
+        where
+          behind : c .found ≡ true → before own rank (c .rank) ≡ false → T (goes own table (c .cic) n)
+          behind e d = go (eqb (rankAt table (c .cic)) (rankAt table n)) refl
+            where
+              go : (b : Bool) → eqb (rankAt table (c .cic)) (rankAt table n) ≡ b → T (goes own table (c .cic) n)
+              go true q = let l : c .cic < n = h .best e .below in aheadIs (before own) (rankAt table (c .cic)) (rankAt table n) (c .cic) n (byNumber (eqb-true _ _ q) (omega arith))
+              go false q = aheadIs (before own) (rankAt table (c .cic)) (rankAt table n) (c .cic) n (byRank (strict own .either (rankAt table n) (rankAt table (c .cic)) (λ s. absurd (rw (← r, ← h .rank e, d) at s)) (λ x. eqb-false _ _ q (sym x))))
+
+      go : (b : Bool) → c .found ≡ b → Held own table among (suc n) (cond (not b || before own rank (c .rank)) new c)
+      go true e = against e (before own rank (c .rank)) refl
+      go false e = starting e
+
+-- after n records: the candidates, no bad record yet, and none at which the search stops
+pub record Scanned (own far : ℕ) (table : List ℕ) (n : ℕ) (o t : Candidate) : Type 0 where
+  pub ours : Held true table (ours own far table) n o
+  pub theirs : Held false table (theirs own far table) n t
+  pub good : (j : ℕ) → j < n → T (bad table j) → ⊥
+  pub on : (j : ℕ) → j < n → T (stops own far table j) → ⊥
+
+isFalse : (b : Bool) → (T b → ⊥) → b ≡ false
+isFalse true n = absurd (n tt)
+isFalse false n = refl
+
+next : (n : ℕ) → n + 1 ≡ suc n
+next n = omega arith
+
+module _ (own far : ℕ) (table : List ℕ) where
+  pub scanStart : Scanned own far table 0 none none
+  scanStart =
+      record {
+        ours = heldNone true table (ours own far table);
+        theirs = heldNone false table (theirs own far table);
+        good = λ j h t. omega arith;
+        on = λ j h t. omega arith;
+      }
+
+  module _ {n : ℕ} {o t : Candidate} (s : Scanned own far table n o t) (ok : allowedAt table n ≡ true) where
+    pub scanBusy : free (stateAt table n) (flagsAt table n) ≡ false → Scanned own far table (n + 1) o t
+    scanBusy e =
+        rw (next n)
+        (record {
+          ours = heldPast true table (ours own far table) n o (s .ours) (λ x. rw e at x);
+          theirs = heldPast false table (theirs own far table) n t (s .theirs) (λ x. rw e at x);
+          good = withLast n (λ j. T (bad table j) → ⊥) (s .good) (λ x. rw ok at x);
+          on = withLast n (λ j. T (stops own far table j) → ⊥) (s .on) (λ x. rw e at x);
+        })
+
+    module _ (is : free (stateAt table n) (flagsAt table n) ≡ true) where
+      pub scanTheirs : controls own far n ≡ false → (r : ℕ) → r ≡ rankAt table n → Scanned own far table (n + 1) o (better false t n r)
+      scanTheirs e r q =
+          rw (next n)
+          (record {
+            ours = heldPast true table (ours own far table) n o (s .ours) (λ x. rw (is, e) at x);
+            theirs = heldNext false table (theirs own far table) n r t (s .theirs) (rw (is, e) tt) q;
+            good = withLast n (λ j. T (bad table j) → ⊥) (s .good) (λ x. rw ok at x);
+            on = withLast n (λ j. T (stops own far table j) → ⊥) (s .on) (λ x. rw (is, e) at x);
+          })
+
+      pub scanOurs : controls own far n ≡ true → (r : ℕ) → r ≡ rankAt table n → (r ≡ 0 → ⊥) → Scanned own far table (n + 1) (better true o n r) t
+      scanOurs e r q used =
+          rw (next n)
+          (record {
+            ours = heldNext true table (ours own far table) n r o (s .ours) (rw (is, e) tt) q;
+            theirs = heldPast false table (theirs own far table) n t (s .theirs) (λ x. rw (is, e) at x);
+            good = withLast n (λ j. T (bad table j) → ⊥) (s .good) (λ x. rw ok at x);
+            on = withLast n (λ j. T (stops own far table j) → ⊥) (s .on) (λ x. used (q ∙ eqb-true _ _ (isTrue _ (right (ours own far table n) _ x))));
+          })
+
+  -- the definition's choice, from the best of ours or of theirs
+  choiceOurs : (n b k : ℕ) → Best (ours own far table) (goes true table) n b → looked own far table n ≡ k → choice own far table n ≡ taken b k
+  unfolding choice
+  choiceOurs n b k w e = rw (someAt n (ours own far table) b (w .below) (w .is), theBest (order true table) w, e)
+
+  choiceTheirs : (n b : ℕ) → ((j : ℕ) → j < n → T (ours own far table j) → ⊥) → Best (theirs own far table) (goes false table) n b → choice own far table n ≡ taken b n
+  unfolding choice
+  choiceTheirs n b none w = rw (noneOf n (ours own far table) none, someAt n (theirs own far table) b (w .below) (w .is), theBest (order false table) w)
+
+  choiceNone : (n : ℕ) → ((j : ℕ) → j < n → T (ours own far table j) → ⊥) → ((j : ℕ) → j < n → T (theirs own far table j) → ⊥) → choice own far table n ≡ refused 14
+  unfolding choice
+  choiceNone n none neither = rw (noneOf n (ours own far table) none, noneOf n (theirs own far table) neither)
+
+  -- a bad record
+  pub scanBad : (i n : ℕ) → i < n → allowedAt table i ≡ false → refused 12 ≡ searched own far table n
+  scanBad i n h e = rw (someAt n (bad table) i h (rw e tt))
+
+  -- the whole table
+  pub scanEnd : {n : ℕ} {o t : Candidate} → Scanned own far table n o t → concluded o t n ≡ searched own far table n
+  scanEnd {n} {o} {t} s = rw (noneOf n (bad table) (s .good)) (go (o .found) refl (t .found) refl)
+    where
+      whole : looked own far table n ≡ n
+      whole = rw (noneOf n (stops own far table) (s .on))
+
+      go : (a : Bool) → o .found ≡ a → (b : Bool) → t .found ≡ b → cond a (taken (o .cic) n) (cond b (taken (t .cic) n) (refused 14)) ≡ choice own far table n
+      go true e b d = sym (choiceOurs n (o .cic) n (s .ours .best e) whole)
+      go false e true d = sym (choiceTheirs n (t .cic) (s .ours .none e) (s .theirs .best d))
+      go false e false d = sym (choiceNone n (s .ours .none e) (s .theirs .none d))
+
+  -- one of ours with rank 0
+  module _ {i : ℕ} {o t : Candidate} (s : Scanned own far table i o t) (n : ℕ) (h : i < n) (ok : allowedAt table i ≡ true) (is : free (stateAt table i) (flagsAt table i) ≡ true) (c : controls own far i ≡ true) (unused : rankAt table i ≡ 0) where
+    here : T (stops own far table i)
+    here = rw (is, c, unused) tt
+
+    -- the records judged so far are not judged again
+    behind : some n (badFrom table (i + 1)) ≡ some n (bad table)
+    behind = ap (λ (k : ℕ). ltb k n) (firstSame n (badFrom table (i + 1)) (bad table) (λ j l. go j (leb (i + 1) j) refl))
+      where
+        go : (j : ℕ) (b : Bool) → leb (i + 1) j ≡ b → (b && bad table j) ≡ bad table j
+        go j true e = refl
+        go j false e =
+            let l : j < i + 1 = leb-false _ _ e in
+            sym (isFalse (bad table j) (withLast i (λ j. T (bad table j) → ⊥) (s .good) (λ x. rw ok at x) j (omega arith)))
+
+    bestHere : Best (ours own far table) (goes true table) n i
+    bestHere = record { below = h; is = left (ours own far table i) _ here; goesFirst = λ j l t. go j t (eqb (rankAt table j) 0) refl }
+      where
+        to : (j : ℕ) → Ahead ltb (rankAt table i) (rankAt table j) i j → T (goes true table i j)
+        to j a = aheadIs ltb (rankAt table i) (rankAt table j) i j a
+
+        tied : (j : ℕ) → T (ours own far table j) → rankAt table j ≡ 0 → (b : Bool) → leb i j ≡ b → T (goes true table i j)
+        tied j t e true d = to j (byNumber (unused ∙ sym e) (leb-true i j d))
+        tied j t e false d = absurd (s .on j (leb-false i j d) (both (ours own far table j) _ t (rw e tt)))
+
+        go : (j : ℕ) → T (ours own far table j) → (b : Bool) → eqb (rankAt table j) 0 ≡ b → T (goes true table i j)
+        go j t true e = tied j t (eqb-true _ _ e) (leb i j) refl
+        go j t false e = let q : rankAt table j ≡ 0 → ⊥ = eqb-false _ _ e in to j (byRank (isLower (rankAt table i) (rankAt table j) (omega (arith, unused))))
+
+    pub scanStop : stopped table i (i + 1) n ≡ searched own far table n
+    scanStop = rw (behind, choiceOurs n i (i + 1) bestHere (rw (someAt n (stops own far table) i h here, firstAt n (stops own far table) i h here (s .on))))

@@ -7,7 +7,7 @@ use lib.Dec.{eqb, leb, ltb}
 use lib.ListN.{length}
 use Rattle.circuit.specs.declared.Cic.{Cic}
 use Rattle.circuit.specs.Groups.{badGroup, controls}
-use Rattle.layout.specs.Layout.{recordsIn, stateAt, rankAt, recordAt, allowedAt}
+use Rattle.layout.specs.Layout.{recordsIn, stateAt, flagsAt, rankAt, recordOf, allowedAt}
 use Rattle.select.specs.declared.Selected.{Selected}
 use Rattle.select.specs.First.{first, some, best}
 
@@ -19,8 +19,11 @@ abbrev pub taken : (cic looked : ℕ) → Selected
 taken cic looked = record { refusal = 0; cic = record { 0 = cic }; looked = looked }
 
 -- the idle circuits without far block
+abbrev pub free : (state flags : ℕ) → Bool
+free s f = eqb s 0 && not (recordOf s f .far)
+
 abbrev pub qualifies : List ℕ → ℕ → Bool
-qualifies table i = eqb (stateAt table i) 0 && not (recordAt table i .far)
+qualifies table i = free (stateAt table i) (flagsAt table i)
 
 -- that we control; those we do not control
 abbrev pub ours : (own far : ℕ) → List ℕ → ℕ → Bool
@@ -50,9 +53,12 @@ choice own far table n =
     (cond (some n (theirs own far table)) (taken (best n (theirs own far table) (later table)) n)
     (refused 14))
 
--- 1, and 12 for any bad record, come before
+-- 1; then 12 for any bad record of the table
+abbrev pub bad : List ℕ → ℕ → Bool
+bad table i = not (allowedAt table i)
+
 unfoldable pub selectIn : (own far : ℕ) → List ℕ → Selected
 selectIn own far table =
     cond (badGroup own far (recordsIn (length table))) (refused 1)
-    (cond (some (recordsIn (length table)) (λ i. not (allowedAt table i))) (refused 12)
+    (cond (some (recordsIn (length table)) (bad table)) (refused 12)
     (choice own far table (recordsIn (length table))))

@@ -1,14 +1,13 @@
 // Which circuit to seize: Q.724, 2.4, method 2, as document 02 has it. Nothing is seized, and nothing lent is changed.
 use circuit::Cic;
 use circuit::PointCode;
+use layout::Stored;
 ghost use mathlib.Core.Path.{_≡_};
-ghost use mathlib.Core.Bool.{cond};
-ghost use Prim.Native.Nat.{_≤_};
+ghost use mathlib.Core.Bool.{not, cond};
 ghost use lib.ListN.{length};
-ghost use Rattle.layout.specs.Layout.{recordsIn};
 ghost use Rattle.select.specs.First.{some};
-ghost use Rattle.select.specs.Selection.{refused, taken, qualifies, choice, selectIn};
-ghost use Rattle.select.specs.Search.{allAllowed, none, before, better, concluded};
+ghost use Rattle.select.specs.Selection.{refused, taken, free, selectIn};
+ghost use Rattle.select.specs.Search.{badFrom, none, before, better, stopped, concluded, searched};
 
 // What selection answers: the refusal's number, 0 where there is none; the circuit; how many records were looked at.
 pub struct Selected {
@@ -18,7 +17,7 @@ pub struct Selected {
 }
 
 // The best circuit so far of those that we control, or of the others, and its rank.
-pub struct Best {
+pub struct Candidate {
     pub found: bool,
     pub cic: u32,
     pub rank: u64,
@@ -44,10 +43,18 @@ fn taken(cic: u32, looked: u32) -> Selected
     }
 }
 
-fn none() -> Best
+// An idle circuit without far block.
+fn free(at: Stored) -> bool
+    ensures { λ r. ⌜ r ≡ free (at .state) (at .flags) ⌝ }
+{
+    let rec = layout::record_of(at.state, at.flags);
+    circuit::both(at.state == 0, !rec.far)
+}
+
+fn none() -> Candidate
     ensures { λ r. ⌜ r ≡ none ⌝ }
 {
-    Best {
+    Candidate {
         found: false,
         cic: 0,
         rank: 0,
@@ -55,22 +62,18 @@ fn none() -> Best
 }
 
 // Whether a rank goes before another: of our own the lower one, of theirs the higher one.
-fn before(own: bool, a: u64, b: u64) -> bool
+fn goes_before(own: bool, a: u64, b: u64) -> bool
     ensures { λ r. ⌜ r ≡ before own a b ⌝ }
 {
     if own { a < b } else { b < a }
 }
 
-// The best circuit so far, and the next one if it is one of them (among): it goes before the best or it does not; of equal ranks the one before
-// stays.
-fn better(own: bool, among: bool, best: Best, cic: u32, rank: u64) -> Best
-    ensures { λ r. ⌜ r ≡ better own among best cic rank ⌝ }
+// The better of the best circuit so far and a later one, to which equal ranks do not go.
+fn better(own: bool, best: Candidate, cic: u32, rank: u64) -> Candidate
+    ensures { λ r. ⌜ r ≡ better own best cic rank ⌝ }
 {
-    if circuit::both(
-        among,
-        circuit::either(!best.found, before(own, rank, best.rank)),
-    ) {
-        Best {
+    if circuit::either(!best.found, goes_before(own, rank, best.rank)) {
+        Candidate {
             found: true,
             cic: cic,
             rank: rank,
@@ -80,63 +83,70 @@ fn better(own: bool, among: bool, best: Best, cic: u32, rank: u64) -> Best
     }
 }
 
-fn qualifies(table: &[u8], cic: Cic) -> bool
-    ensures { λ r. ⌜ r ≡ qualifies (now (table .entry)) (cic .0) ⌝ }
+// Whether all records from one on are allowed.
+fn allowed_from(table: &[u8], from: u32, records: u32) -> bool
+    ensures { λ r. ⌜ r ≡ not (some records (badFrom (now (table .entry)) from)) ⌝ }
 {
-    let state = layout::state_at(table, cic);
-    let flags = layout::flags_at(table, cic);
-    let rec = layout::record_of(state, flags);
-    circuit::both(state == 0, !rec.far)
-}
-
-fn all_allowed(table: &[u8], records: u32) -> bool
-    ensures { λ r. ⌜ r ≡ allAllowed (now (table .entry)) records ⌝ }
-{
-    let mut i = 0;
-    while i < records {
-        if !layout::allowed_at(table, Cic(i)) {
+    for i in from..records {
+        let at = layout::stored_at(table, Cic(i));
+        if !layout::allowed(at.state, at.flags) {
             return false;
         }
-        i += 1;
     }
     true
 }
 
-// What the whole table was searched for: of our own circuits the best, else of theirs.
-fn conclude(ours: Best, theirs: Best, records: u32) -> Selected
-    ensures { λ r. ⌜ r ≡ concluded ours theirs records ⌝ }
+// The search stopped at a circuit; the records behind it are judged all the same.
+fn stop(table: &[u8], cic: u32, looked: u32, records: u32) -> Selected
+    ensures { λ r. ⌜ r ≡ stopped (now (table .entry)) cic looked records ⌝ }
 {
-    if ours.found {
-        taken(ours.cic, records)
-    } else if theirs.found {
-        taken(theirs.cic, records)
+    if allowed_from(table, looked, records) {
+        taken(cic, looked)
     } else {
-        refused(14)
+        refused(12)
     }
 }
 
-// Looks at one record after another, and stops at one of our own with rank 0: none can have been released before it.
-fn choose(own: PointCode, far: PointCode, table: &[u8], records: u32) -> Selected
-    ensures { λ r. ⌜ r ≡ choice (own .0) (far .0) (now (table .entry)) records ⌝ }
+// The whole table was looked at: the best of ours, else the best of theirs.
+fn conclude(ours: Candidate, theirs: Candidate, records: u32) -> Selected
+    ensures { λ r. ⌜ r ≡ concluded ours theirs records ⌝ }
+{
+    if ours.found {
+        return taken(ours.cic, records);
+    }
+    if theirs.found {
+        return taken(theirs.cic, records);
+    }
+    refused(14)
+}
+
+// Judges each record and looks at it, and stops at one of our own with rank 0: none can have been released before it.
+fn search(own: PointCode, far: PointCode, table: &[u8], records: u32) -> Selected
+    ensures { λ r. ⌜ r ≡ searched (own .0) (far .0) (now (table .entry)) records ⌝ }
 {
     let mut ours = none();
     let mut theirs = none();
-    let mut i = 0;
-    while i < records {
-        let free = qualifies(table, Cic(i));
-        let con = circuit::controls(own, far, Cic(i));
-        let rank = layout::rank_at(table, Cic(i));
-        if circuit::both(circuit::both(free, con), rank == 0) {
-            return taken(i, i + 1);
+    for i in 0..records {
+        let at = layout::stored_at(table, Cic(i));
+        if !layout::allowed(at.state, at.flags) {
+            return refused(12);
         }
-        ours = better(true, circuit::both(free, con), ours, i, rank);
-        theirs = better(false, circuit::both(free, !con), theirs, i, rank);
-        i += 1;
+        if !free(at) {
+            continue;
+        }
+        if !circuit::controls(own, far, Cic(i)) {
+            theirs = better(false, theirs, i, at.rank);
+            continue;
+        }
+        if at.rank == 0 {
+            return stop(table, i, i + 1, records);
+        }
+        ours = better(true, ours, i, at.rank);
     }
     conclude(ours, theirs, records)
 }
 
-// The circuit to seize in the group with these codes and this table: one pass for bad records, and at most one for the search.
+// The circuit to seize in the group with these codes and this table. Each record is read once.
 pub fn select(own: PointCode, far: PointCode, table: &[u8]) -> Selected
     ensures { λ r. ⌜ r ≡ selectIn (own .0) (far .0) (now (table .entry)) ⌝ }
 {
@@ -144,9 +154,5 @@ pub fn select(own: PointCode, far: PointCode, table: &[u8]) -> Selected
     if circuit::bad_group(own, far, records) {
         return refused(1);
     }
-    if all_allowed(table, records as u32) {
-        choose(own, far, table, records as u32)
-    } else {
-        refused(12)
-    }
+    search(own, far, table, records as u32)
 }
