@@ -1,3 +1,4 @@
 pub mod First
 pub mod Selection
 pub mod Search
+pub mod Laws

@@ -105,7 +105,7 @@ record Strict (lt : ℕ → ℕ → Bool) : Type 0 where
   through : (a b c : ℕ) → T (lt a b) → T (lt b c) → T (lt a c)
   either : (a b : ℕ) → (T (lt a b) → ⊥) → (a ≡ b → ⊥) → T (lt b a)
 
-lower : (a b : ℕ) → T (ltb a b) → a < b
+pub lower : (a b : ℕ) → T (ltb a b) → a < b
 lower a b t = ltb-true a b (isTrue _ t)
 
 isLower : (a b : ℕ) → a < b → T (ltb a b)
@@ -132,11 +132,11 @@ strict false =
       either = λ a b n d. let h : a ≤ b = notLower b a n in isLower a b (omega arith);
     }
 
-data Ahead (lt : ℕ → ℕ → Bool) (a b i j : ℕ) : Type 0 where
+pub data Ahead (lt : ℕ → ℕ → Bool) (a b i j : ℕ) : Type 0 where
   byRank : T (lt a b) → Ahead lt a b i j
   byNumber : a ≡ b → i ≤ j → Ahead lt a b i j
 
-view : (lt : ℕ → ℕ → Bool) (a b i j : ℕ) → T (ahead lt a b i j) → Ahead lt a b i j
+pub view : (lt : ℕ → ℕ → Bool) (a b i j : ℕ) → T (ahead lt a b i j) → Ahead lt a b i j
 view lt a b i j t = go (lt a b) refl t
   where
     go : (p : Bool) → lt a b ≡ p → T (p || (eqb a b && leb i j)) → Ahead lt a b i j
@@ -190,6 +190,25 @@ module _ {lt : ℕ → ℕ → Bool} (s : Strict lt) (rank : ℕ → ℕ) where
 
 pub order : (own : Bool) (table : List ℕ) → Order (goes own table)
 order own table = ordered (strict own) (rankAt table)
+
+-- of ours, the first that is unused goes before all others
+module _ (own far : ℕ) (table : List ℕ) (n i : ℕ) (h : i < n) (here : T (stops own far table i)) (before : (j : ℕ) → j < i → T (stops own far table j) → ⊥) where
+  unused : rankAt table i ≡ 0
+  unused = eqb-true _ _ (isTrue _ (right (ours own far table i) _ here))
+
+  pub firstUnused : Best (ours own far table) (earlier table) n i
+  firstUnused = record { below = h; is = left (ours own far table i) _ here; goesFirst = λ j l t. go j t (eqb (rankAt table j) 0) refl }
+    where
+      to : (j : ℕ) → Ahead ltb (rankAt table i) (rankAt table j) i j → T (earlier table i j)
+      to j a = aheadIs ltb (rankAt table i) (rankAt table j) i j a
+
+      tied : (j : ℕ) → T (ours own far table j) → rankAt table j ≡ 0 → (b : Bool) → leb i j ≡ b → T (earlier table i j)
+      tied j t e true d = to j (byNumber (unused ∙ sym e) (leb-true i j d))
+      tied j t e false d = absurd (before j (leb-false i j d) (both (ours own far table j) _ t (rw e tt)))
+
+      go : (j : ℕ) → T (ours own far table j) → (b : Bool) → eqb (rankAt table j) 0 ≡ b → T (earlier table i j)
+      go j t true e = tied j t (eqb-true _ _ e) (leb i j) refl
+      go j t false e = let q : rankAt table j ≡ 0 → ⊥ = eqb-false _ _ e in to j (byRank (isLower (rankAt table i) (rankAt table j) (omega (arith, unused))))
 
 -- what the search holds after n records: no candidate where none of them is among them, else the best of them
 pub record Held (own : Bool) (table : List ℕ) (among : ℕ → Bool) (n : ℕ) (c : Candidate) : Type 0 where
@@ -343,19 +362,7 @@ module _ (own far : ℕ) (table : List ℕ) where
             let l : j < i + 1 = leb-false _ _ e in
             sym (isFalse (bad table j) (withLast i (λ j. T (bad table j) → ⊥) (s .good) (λ x. rw ok at x) j (omega arith)))
 
-    bestHere : Best (ours own far table) (goes true table) n i
-    bestHere = record { below = h; is = left (ours own far table i) _ here; goesFirst = λ j l t. go j t (eqb (rankAt table j) 0) refl }
-      where
-        to : (j : ℕ) → Ahead ltb (rankAt table i) (rankAt table j) i j → T (goes true table i j)
-        to j a = aheadIs ltb (rankAt table i) (rankAt table j) i j a
-
-        tied : (j : ℕ) → T (ours own far table j) → rankAt table j ≡ 0 → (b : Bool) → leb i j ≡ b → T (goes true table i j)
-        tied j t e true d = to j (byNumber (unused ∙ sym e) (leb-true i j d))
-        tied j t e false d = absurd (s .on j (leb-false i j d) (both (ours own far table j) _ t (rw e tt)))
-
-        go : (j : ℕ) → T (ours own far table j) → (b : Bool) → eqb (rankAt table j) 0 ≡ b → T (goes true table i j)
-        go j t true e = tied j t (eqb-true _ _ e) (leb i j) refl
-        go j t false e = let q : rankAt table j ≡ 0 → ⊥ = eqb-false _ _ e in to j (byRank (isLower (rankAt table i) (rankAt table j) (omega (arith, unused))))
-
     pub scanStop : stopped table i (i + 1) n ≡ searched own far table n
-    scanStop = rw (behind, choiceOurs n i (i + 1) bestHere (rw (someAt n (stops own far table) i h here, firstAt n (stops own far table) i h here (s .on))))
+    scanStop =
+        rw (behind,
+        choiceOurs n i (i + 1) (firstUnused own far table n i h here (s .on)) (rw (someAt n (stops own far table) i h here, firstAt n (stops own far table) i h here (s .on))))
