@@ -121,8 +121,8 @@ module _ (own far : ℕ) (table : List ℕ) where
       (λ g r. absurd (omega arith)) (λ g a r. absurd (omega arith))
       (λ g a o r other. absurd (other (right (qualifies table (best n (ours own far table) (earlier table))) _ (best₁ o .is))))
       (λ g a o u r other j h t.
-        let not : T (controls own far j) → ⊥ = λ c. noneAt n (ours own far table) o j h (both (qualifies table j) _ t c) in
-        (not, isLater table _ j (best₂ u .goesFirst j h (both (qualifies table j) _ t (not-T (controls own far j) not)))))
+      let not : T (controls own far j) → ⊥ = λ c. noneAt n (ours own far table) o j h (both (qualifies table j) _ t c) in
+      (not, isLater table _ j (best₂ u .goesFirst j h (both (qualifies table j) _ t (not-T (controls own far j) not)))))
       (λ g a o u r. absurd (omega arith))
 
   -- each refusal is given exactly when document 02 says: 1; then 12 for any bad record; then 14 if no circuit qualifies

@@ -364,5 +364,7 @@ module _ (own far : ℕ) (table : List ℕ) where
 
     pub scanStop : stopped table i (i + 1) n ≡ searched own far table n
     scanStop =
-        rw (behind,
-        choiceOurs n i (i + 1) (firstUnused own far table n i h here (s .on)) (rw (someAt n (stops own far table) i h here, firstAt n (stops own far table) i h here (s .on))))
+        rw (
+          behind,
+          choiceOurs n i (i + 1) (firstUnused own far table n i h here (s .on)) (rw (someAt n (stops own far table) i h here, firstAt n (stops own far table) i h here (s .on))),
+        )

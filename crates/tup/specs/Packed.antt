@@ -1,10 +1,11 @@
--- A step's answer as one number, an octet to a field, lowest first: refusal, indication, state, flags, first and second heading sent (0 for
--- none).
+-- Answers as one number. A step's has an octet to a field, lowest first: refusal, indication, state, flags, first and second heading sent (0 for
+-- none). A selection's has 16 bits to a field: refusal, circuit, count of records looked at.
 -- Assumes nothing.
 use mathlib.Core.Path.{_≡_}
 use Prim.Native.Nat.{ℕ, _+_, _*_, _/_, _%_}
 use Rattle.codes.specs.Headings.{firstHeading, secondHeading}
 use Rattle.group.specs.declared.Answer.{Answer}
+use Rattle.select.specs.declared.Selected.{Selected}
 
 -- six octets as one number
 abbrev pub octets : (a b c d e f : ℕ) → ℕ
@@ -24,3 +25,11 @@ packed a = octets (a .refusal) (a .ind) (a .state) (a .flags) (firstHeading (a .
 
 abbrev pub Unpacked : ℕ → Answer → Type 0
 Unpacked r a = Unpacks r (a .refusal) (a .ind) (a .state) (a .flags) (firstHeading (a .sends)) (secondHeading (a .sends))
+
+abbrev pub packedChoice : Selected → ℕ
+packedChoice s = s .refusal + 0x10000 * (s .cic .0 + 0x10000 * s .looked)
+
+pub record ChoiceUnpacked (r : ℕ) (s : Selected) : Type 0 where
+  pub refusal : r % 0x10000 ≡ s .refusal
+  pub cic : r / 0x10000 % 0x10000 ≡ s .cic .0
+  pub looked : r / 0x100000000 ≡ s .looked

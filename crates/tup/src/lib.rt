@@ -2,13 +2,15 @@
 use circuit::Cic;
 use circuit::PointCode;
 use group::Answer;
+use select::Selected;
 ghost use mathlib.Core.Path.{_≡_};
-ghost use Prim.Native.Nat.{_<_};
+ghost use Prim.Native.Nat.{_<_, _≤_};
 ghost use Rattle.codes.specs.Numbers.{eventOf};
 ghost use Rattle.group.specs.Table.{stepIn};
+ghost use Rattle.select.specs.Selection.{selectIn};
 ghost use Rattle.link.specs.Entries.{readInto, writeFrom};
 ghost use Rattle.link.specs.Writing.{said};
-ghost use Rattle.tup.specs.Packed.{octets, packed, Unpacks, Unpacked};
+ghost use Rattle.tup.specs.Packed.{octets, packed, Unpacks, Unpacked, packedChoice, ChoiceUnpacked};
 
 fn wide(x: u8) -> u64
     ensures { λ r. ⌜ (r ≡ x) × (r < 256) ⌝ }
@@ -51,6 +53,24 @@ pub extern "C" fn tup_step(
 {
     let event = codes::event_of(kind, code, detail);
     pack(group::step(PointCode(own), PointCode(far), table, Cic(cic), event))
+}
+
+fn pack_choice(s: Selected) -> u64
+    requires { ⌜ (s .cic .0 < 4096) × (s .looked ≤ 4096) ⌝ }
+    ensures packs { λ r. ⌜ r ≡ packedChoice s ⌝ }
+    ensures unpacks { λ r. ⌜ ChoiceUnpacked r s ⌝ }
+{
+    let cic = s.cic;
+    wide(s.refusal) + 0x10000 * (cic.0 as u64 + 0x10000 * (s.looked as u64))
+}
+
+// Which circuit of a group to seize, and how many records were looked at, packed into one number. Nothing is seized.
+#[no_mangle]
+pub extern "C" fn tup_select(own: u32, far: u32, table: &[u8]) -> u64
+    ensures answers { λ r. ⌜ r ≡ packedChoice (selectIn own far (now (table .entry))) ⌝ }
+    ensures unpacks { λ r. ⌜ ChoiceUnpacked r (selectIn own far (now (table .entry))) ⌝ }
+{
+    pack_choice(select::select(PointCode(own), PointCode(far), table))
 }
 
 // Reads a message from its label on, in a group of `count` circuits. The answer is the refusal; the fields go to `out`.

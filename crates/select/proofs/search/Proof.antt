@@ -49,10 +49,11 @@ loop-less c = search needs
 
 loop-again : tie.Need-loop-again Inv-loop μ-loop
 loop-again c =
-    let f = c .before in let a = f .before .before in let r = a .before in let l = r .before .before in
-    (search needs,
-    scanBusy _ _ _ (l .loop .inv .1) (judged _ _ (r .stored-at .ensures) (a .allowed .ensures) ∙ not-false _ (f .before .if1 .left))
-    (freeAt _ _ (r .stored-at .ensures) (f .free .ensures) ∙ not-true _ (c .if2 .taken)))
+    let f = c .before in let a = f .before .before in let r = a .before in let l = r .before .before in (
+      search needs,
+      scanBusy _ _ _ (l .loop .inv .1) (judged _ _ (r .stored-at .ensures) (a .allowed .ensures) ∙ not-false _ (f .before .if1 .left))
+          (freeAt _ _ (r .stored-at .ensures) (f .free .ensures) ∙ not-true _ (c .if2 .taken)),
+    )
 
 controls-requires : tie.Need-controls-requires Inv-loop μ-loop
 controls-requires c κs = search needs
@@ -68,12 +69,13 @@ loop-less-2 c = search needs
 
 loop-again-2 : tie.Need-loop-again-2 Inv-loop μ-loop
 loop-again-2 c =
-    let k = c .before .before in let f = k .before .before in let a = f .before .before in let r = a .before in let l = r .before .before in
-    (search needs,
-    rw (c .better .ensures)
-    (scanTheirs _ _ _ (l .loop .inv .1) (judged _ _ (r .stored-at .ensures) (a .allowed .ensures) ∙ not-false _ (f .before .if1 .left))
-    (freeAt _ _ (r .stored-at .ensures) (f .free .ensures) ∙ not-false _ (k .before .if2 .left))
-    (sym (k .controls .ensures) ∙ not-true _ (c .before .if3 .taken)) _ (rankIs _ _ (r .stored-at .ensures))))
+    let k = c .before .before in let f = k .before .before in let a = f .before .before in let r = a .before in let l = r .before .before in (
+      search needs,
+      rw (c .better .ensures)
+          (scanTheirs _ _ _ (l .loop .inv .1) (judged _ _ (r .stored-at .ensures) (a .allowed .ensures) ∙ not-false _ (f .before .if1 .left))
+          (freeAt _ _ (r .stored-at .ensures) (f .free .ensures) ∙ not-false _ (k .before .if2 .left))
+          (sym (k .controls .ensures) ∙ not-true _ (c .before .if3 .taken)) _ (rankIs _ _ (r .stored-at .ensures))),
+    )
 
 add-stop : tie.Need-add-stop Inv-loop μ-loop
 add-stop c = search needs
@@ -100,12 +102,13 @@ loop-less-3 c = search needs
 
 loop-again-3 : tie.Need-loop-again-3 Inv-loop μ-loop
 loop-again-3 c =
-    let z = c .before in let k = z .before .before .before in let f = k .before .before in let a = f .before .before in let r = a .before in let l = r .before .before in
-    (search needs,
-    rw (c .better2 .ensures)
-    (scanOurs _ _ _ (l .loop .inv .1) (judged _ _ (r .stored-at .ensures) (a .allowed .ensures) ∙ not-false _ (f .before .if1 .left))
-    (freeAt _ _ (r .stored-at .ensures) (f .free .ensures) ∙ not-false _ (k .before .if2 .left))
-    (sym (k .controls .ensures) ∙ not-false _ (z .before .before .if3 .left)) _ (rankIs _ _ (r .stored-at .ensures)) (z .if4 .left)))
+    let z = c .before in let k = z .before .before .before in let f = k .before .before in let a = f .before .before in let r = a .before in let l = r .before .before in (
+      search needs,
+      rw (c .better2 .ensures)
+          (scanOurs _ _ _ (l .loop .inv .1) (judged _ _ (r .stored-at .ensures) (a .allowed .ensures) ∙ not-false _ (f .before .if1 .left))
+          (freeAt _ _ (r .stored-at .ensures) (f .free .ensures) ∙ not-false _ (k .before .if2 .left))
+          (sym (k .controls .ensures) ∙ not-false _ (z .before .before .if3 .left)) _ (rankIs _ _ (r .stored-at .ensures)) (z .if4 .left)),
+    )
 
 conclude-requires : tie.Need-conclude-requires Inv-loop μ-loop
 conclude-requires c κs = search needs
