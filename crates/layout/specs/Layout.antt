@@ -66,9 +66,12 @@ allowed s f = leb f 15 && valid (recordOf s f)
 abbrev pub allowedAt : List ℕ → ℕ → Bool
 allowedAt table i = allowed (stateAt table i) (flagsAt table i)
 
--- all that stands at circuit i
+-- all that stands at circuit i; zeros where the table has no such circuit
+abbrev pub stored : (state flags rank : ℕ) → Stored
+stored s f r = record { state = s; flags = f; rank = r }
+
 abbrev pub storedAt : List ℕ → ℕ → Stored
-storedAt table i = record { state = stateAt table i; flags = flagsAt table i; rank = rankAt table i }
+storedAt table i = cond (leb (tableOctets i + recordOctets) (length table)) (stored (stateAt table i) (flagsAt table i) (rankAt table i)) (stored 0 0 0)
 
 -- the table with a record put at circuit i, which keeps its rank
 unfoldable pub put : List ℕ → ℕ → Record → List ℕ
@@ -86,19 +89,23 @@ abbrev pub ranked : List ℕ → ℕ → (n : ℕ) → List ℕ
 ranked table i n = putRank (putCounter table n) i n
 
 -- a circuit's octets one by one, as the program reads them
-pub octetsAt : (table : List ℕ) (i at rank : ℕ) → at ≡ tableOctets i
-    → rank ≡ getD table (at + 2) 0 + 256 * (getD table (at + 3) 0 + 256 * (getD table (at + 4) 0 + 256 * (getD table (at + 5) 0 + 256 * (getD table (at + 6) 0 + 256 * (getD table (at + 7) 0 + 256 * (getD table (at + 8) 0 + 256 * getD table (at + 9) 0))))))
-    → record { state = getD table at 0; flags = getD table (at + 1) 0; rank = rank } ≡ storedAt table i
-unfolding stateAt flagsAt rankAt
-octetsAt table i at rank place e =
-    let p₁ : at + 2 + 1 ≡ at + 3 = omega arith in
-    let p₂ : at + 2 + 2 ≡ at + 4 = omega arith in
-    let p₃ : at + 2 + 3 ≡ at + 5 = omega arith in
-    let p₄ : at + 2 + 4 ≡ at + 6 = omega arith in
-    let p₅ : at + 2 + 5 ≡ at + 7 = omega arith in
-    let p₆ : at + 2 + 6 ≡ at + 8 = omega arith in
-    let p₇ : at + 2 + 7 ≡ at + 9 = omega arith in
-    rw (e, ← place, words.octets table (at + 2), p₁, p₂, p₃, p₄, p₅, p₆, p₇)
+module _ (table : List ℕ) (i at : ℕ) (place : at ≡ tableOctets i) where
+  pub octetsAt : (rank : ℕ) → at + recordOctets ≤ length table
+      → rank ≡ getD table (at + 2) 0 + 256 * (getD table (at + 3) 0 + 256 * (getD table (at + 4) 0 + 256 * (getD table (at + 5) 0 + 256 * (getD table (at + 6) 0 + 256 * (getD table (at + 7) 0 + 256 * (getD table (at + 8) 0 + 256 * getD table (at + 9) 0))))))
+      → stored (getD table at 0) (getD table (at + 1) 0) rank ≡ storedAt table i
+  unfolding stateAt flagsAt rankAt
+  octetsAt rank there e =
+      let p₁ : at + 2 + 1 ≡ at + 3 = omega arith in
+      let p₂ : at + 2 + 2 ≡ at + 4 = omega arith in
+      let p₃ : at + 2 + 3 ≡ at + 5 = omega arith in
+      let p₄ : at + 2 + 4 ≡ at + 6 = omega arith in
+      let p₅ : at + 2 + 5 ≡ at + 7 = omega arith in
+      let p₆ : at + 2 + 6 ≡ at + 8 = omega arith in
+      let p₇ : at + 2 + 7 ≡ at + 9 = omega arith in
+      rw (e, ← place, le-leb (at + recordOctets) (length table) there, words.octets table (at + 2), p₁, p₂, p₃, p₄, p₅, p₆, p₇)
+
+  pub noOctets : length table < at + recordOctets → stored 0 0 0 ≡ storedAt table i
+  noOctets h = rw (← place, lt-leb (at + recordOctets) (length table) h)
 
 -- an octet of flags and the flags correspond
 pub flagsBack : (s f : ℕ) → f ≤ 15 → flagsOf (recordOf s f) ≡ f
@@ -163,6 +170,9 @@ inside octets i h = go (eqb ((octets - counterOctets) % recordOctets) 0) h
     go : (b : Bool) → i < cond b ((octets - counterOctets) / recordOctets) 0 → tableOctets i + recordOctets ≤ octets
     go true h = omega arith
     go false h = absurd (omega arith)
+
+pub storedIn : (table : List ℕ) (i : ℕ) → i < recordsIn (length table) → storedAt table i ≡ stored (stateAt table i) (flagsAt table i) (rankAt table i)
+storedIn table i h = rw (le-leb (tableOctets i + recordOctets) (length table) (inside (length table) i h))
 
 -- fewer octets than the counter has hold no record
 pub shortRecords : (octets : ℕ) → octets < counterOctets → recordsIn octets ≡ 0

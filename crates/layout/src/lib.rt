@@ -71,30 +71,17 @@ pub fn rank_at(table: &[u8], cic: Cic) -> u64
     words::word(table, table_octets(cic.0) + 2)
 }
 
-// A record whose octets may not all be there.
-fn short_record(table: &[u8], cic: Cic) -> Stored
-    ensures { λ r. ⌜ r ≡ storedAt (now (table .entry)) (cic .0) ⌝ }
-{
-    let state = state_at(table, cic);
-    let flags = flags_at(table, cic);
-    let rank = rank_at(table, cic);
-    Stored {
-        state: state,
-        flags: flags,
-        rank: rank,
-    }
-}
-
-// All that stands at a circuit, asked once for its place.
+// All that stands at a circuit, by one look at the table's length.
 pub fn stored_at(table: &[u8], cic: Cic) -> Stored
     ensures { λ r. ⌜ r ≡ storedAt (now (table .entry)) (cic .0) ⌝ }
 {
     let at = table_octets(cic.0);
-    if table.len() <= at {
-        return short_record(table, cic);
-    }
-    if table.len() - at < RECORD_OCTETS {
-        return short_record(table, cic);
+    if table.len() < at + RECORD_OCTETS {
+        return Stored {
+            state: 0,
+            flags: 0,
+            rank: 0,
+        };
     }
     let rank = words::number(
         table[at + 2],

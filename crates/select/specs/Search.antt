@@ -11,8 +11,7 @@ use lib.ListN.{length}
 use Rattle.circuit.specs.Groups.{badGroup, controls}
 use Rattle.circuit.specs.Every.{left, right, both, isTrue}
 use Rattle.layout.specs.declared.Stored.{Stored}
-use Rattle.layout.specs.Layout.{recordsIn, stateAt, flagsAt, rankAt, allowed, allowedAt, storedAt}
-use Rattle.select.specs.declared.Candidate.{Candidate}
+use Rattle.layout.specs.Layout.{recordsIn, stateAt, flagsAt, rankAt, allowed, allowedAt, stored, storedAt, storedIn}
 use Rattle.select.specs.declared.Selected.{Selected}
 use Rattle.select.specs.First.{first, some, best, firstAt, firstSame, someAt, noneOf, Best, Order, theBest, starts, takes, stays, withLast}
 use Rattle.select.specs.Selection.{refused, taken, free, ours, theirs, earlier, later, stops, looked, choice, bad, selectIn}
@@ -21,23 +20,20 @@ use Rattle.select.specs.Selection.{refused, taken, free, ours, theirs, e
 abbrev pub badFrom : List ℕ → (from : ℕ) → ℕ → Bool
 badFrom table from i = leb from i && bad table i
 
-abbrev pub none : Candidate
-none = record { found = false; cic = 0; rank = 0 }
-
 -- a rank goes before another: of our own the lower one, of theirs the higher one
 abbrev pub before : (own : Bool) → (a b : ℕ) → Bool
 before own a b = cond own (ltb a b) (ltb b a)
 
--- the best so far and a later one
-abbrev pub better : (own : Bool) → Candidate → (cic rank : ℕ) → Candidate
-better own b cic rank = cond (not (b .found) || before own rank (b .rank)) (record { found = true; cic = cic; rank = rank }) b
+-- a later circuit takes the place of the best so far
+abbrev pub better : (own none : Bool) → (rank best : ℕ) → Bool
+better own none rank best = none || before own rank best
 
 -- where the search stops, and where it has looked at n records
 abbrev pub stopped : List ℕ → (cic looked n : ℕ) → Selected
 stopped table cic looked n = cond (some n (badFrom table looked)) (refused 12) (taken cic looked)
 
-abbrev pub concluded : (ours theirs : Candidate) → (n : ℕ) → Selected
-concluded ours theirs n = cond (ours .found) (taken (ours .cic) n) (cond (theirs .found) (taken (theirs .cic) n) (refused 14))
+abbrev pub concluded : (ours theirs n : ℕ) → Selected
+concluded ours theirs n = cond (eqb ours n) (cond (eqb theirs n) (refused 14) (taken theirs n)) (taken ours n)
 
 -- the whole search in n records
 abbrev pub searched : (own far : ℕ) → List ℕ → (n : ℕ) → Selected
@@ -54,15 +50,18 @@ module _ (own far : ℕ) (table : List ℕ) where
   inGroup good = rw good
 
 -- what the program reads of a record
-module _ (table : List ℕ) (i : ℕ) {s : Stored} (e : s ≡ storedAt table i) where
+module _ (table : List ℕ) (i n : ℕ) {s : Stored} (all : n ≤ recordsIn (length table)) (h : i < n) (e : s ≡ storedAt table i) where
+  read : s ≡ stored (stateAt table i) (flagsAt table i) (rankAt table i)
+  read = e ∙ storedIn table i (omega arith)
+
   pub judged : {b : Bool} → b ≡ allowed (s .state) (s .flags) → allowedAt table i ≡ b
-  judged d = sym (rw e at d)
+  judged d = sym (rw read at d)
 
   pub freeAt : {b : Bool} → b ≡ free (s .state) (s .flags) → free (stateAt table i) (flagsAt table i) ≡ b
-  freeAt d = sym (rw e at d)
+  freeAt d = sym (rw read at d)
 
   pub rankIs : s .rank ≡ rankAt table i
-  rankIs = rw e
+  rankIs = rw read
 
 -- no bad record from one up to another
 pub record GoodFrom (table : List ℕ) (from i : ℕ) : Type 0 where
@@ -210,64 +209,57 @@ module _ (own far : ℕ) (table : List ℕ) (n i : ℕ) (h : i < n) (here : T (s
       go j t true e = tied j t (eqb-true _ _ e) (leb i j) refl
       go j t false e = let q : rankAt table j ≡ 0 → ⊥ = eqb-false _ _ e in to j (byRank (isLower (rankAt table i) (rankAt table j) (omega (arith, unused))))
 
--- what the search holds after n records: no candidate where none of them is among them, else the best of them
-pub record Held (own : Bool) (table : List ℕ) (among : ℕ → Bool) (n : ℕ) (c : Candidate) : Type 0 where
-  pub none : c .found ≡ false → (j : ℕ) → j < n → T (among j) → ⊥
-  pub best : c .found ≡ true → Best among (goes own table) n (c .cic)
-  pub rank : c .found ≡ true → c .rank ≡ rankAt table (c .cic)
+-- what the search holds after i of n records: circuit c with rank r is the best of those that are among them, n stands for none
+pub record Held (own : Bool) (table : List ℕ) (among : ℕ → Bool) (n i c r : ℕ) : Type 0 where
+  pub none : c ≡ n → (j : ℕ) → j < i → T (among j) → ⊥
+  pub best : (c ≡ n → ⊥) → Best among (goes own table) i c
+  pub rank : (c ≡ n → ⊥) → r ≡ rankAt table c
 
-differ : false ≡ true → ⊥
-differ e = subst (λ (b : Bool). T (not b)) e tt
+module _ (own : Bool) (table : List ℕ) (among : ℕ → Bool) (n : ℕ) where
+  heldNone : (r : ℕ) → Held own table among n 0 n r
+  heldNone r = record { none = λ e j h t. omega arith; best = λ d. absurd (d refl); rank = λ d. absurd (d refl) }
 
-module _ (own : Bool) (table : List ℕ) (among : ℕ → Bool) where
-  heldNone : Held own table among 0 none
-  heldNone = record { none = λ e j h t. omega arith; best = λ e. absurd (differ e); rank = λ e. absurd (differ e) }
+  module _ {i c r : ℕ} (h : Held own table among n i c r) where
+    -- a record that is not among them
+    heldPast : (T (among i) → ⊥) → Held own table among n (suc i) c r
+    heldPast past = record { none = λ e. withLast i (λ j. T (among j) → ⊥) (h .none e) past; best = λ d. stays (order own table) (h .best d) (λ t. absurd (past t)); rank = h .rank }
 
-  -- a record that is not among them
-  heldPast : (n : ℕ) (c : Candidate) → Held own table among n c → (T (among n) → ⊥) → Held own table among (suc n) c
-  heldPast n c h past = record { none = λ e. withLast n (λ j. T (among j) → ⊥) (h .none e) past; best = λ e. stays (order own table) (h .best e) (λ t. absurd (past t)); rank = h .rank }
-
-  -- one that is
-  heldNext : (n rank : ℕ) (c : Candidate) → Held own table among n c → T (among n) → rank ≡ rankAt table n → Held own table among (suc n) (better own c n rank)
-  heldNext n rank c h t r = go (c .found) refl
-    where
-      new : Candidate
-      new = record { found = true; cic = n; rank = rank }
-
-      starting : c .found ≡ false → Held own table among (suc n) new
-      starting e = record { none = λ d. absurd (differ (sym d)); best = λ d. starts (order own table) (h .none e) t; rank = λ d. r }
-
-      against : c .found ≡ true → (b : Bool) → before own rank (c .rank) ≡ b → Held own table among (suc n) (cond b new c)
-      against e true d =
-          record {
-            none = λ d. absurd (differ (sym d));
-            best = λ q. takes (order own table) (h .best e) t (aheadIs (before own) (rankAt table n) (rankAt table (c .cic)) n (c .cic) (byRank (rw (← r, ← h .rank e, d) tt)));
-            rank = λ q. r;
-          }
-      against e false d =
-          record {
-            none = λ q. absurd (differ (sym q ∙ e));
-            best = λ q. stays (order own table) (h .best e) (λ s. behind e d);
-            rank = h .rank;
-          }
+    -- one that is
+    module _ (below : i < n) (t : T (among i)) (rank : ℕ) (is : rank ≡ rankAt table i) where
+      heldNew : better own (eqb c n) rank r ≡ true → Held own table among n (suc i) i rank
+      heldNew e = record { none = λ q. absurd (omega arith); best = λ d. go (eqb c n) refl e; rank = λ d. is }
         where
-          behind : c .found ≡ true → before own rank (c .rank) ≡ false → T (goes own table (c .cic) n)
-          behind e d = go (eqb (rankAt table (c .cic)) (rankAt table n)) refl
-            where
-              go : (b : Bool) → eqb (rankAt table (c .cic)) (rankAt table n) ≡ b → T (goes own table (c .cic) n)
-              go true q = let l : c .cic < n = h .best e .below in aheadIs (before own) (rankAt table (c .cic)) (rankAt table n) (c .cic) n (byNumber (eqb-true _ _ q) (omega arith))
-              go false q = aheadIs (before own) (rankAt table (c .cic)) (rankAt table n) (c .cic) n (byRank (strict own .either (rankAt table n) (rankAt table (c .cic)) (λ s. absurd (rw (← r, ← h .rank e, d) at s)) (λ x. eqb-false _ _ q (sym x))))
+          go : (b : Bool) → eqb c n ≡ b → (b || before own rank r) ≡ true → Best among (goes own table) (suc i) i
+          go true q e = starts (order own table) (h .none (eqb-true c n q)) t
+          go false q e =
+              let some : c ≡ n → ⊥ = eqb-false c n q in
+              takes (order own table) (h .best some) t (aheadIs (before own) (rankAt table i) (rankAt table c) i c (byRank (rw (← is, ← h .rank some, e) tt)))
 
-      go : (b : Bool) → c .found ≡ b → Held own table among (suc n) (cond (not b || before own rank (c .rank)) new c)
-      go true e = against e (before own rank (c .rank)) refl
-      go false e = starting e
+      heldStays : better own (eqb c n) rank r ≡ false → Held own table among n (suc i) c r
+      heldStays e = go (eqb c n) refl e
+        where
+          behind : (c ≡ n → ⊥) → before own rank r ≡ false → (b : Bool) → eqb (rankAt table c) (rankAt table i) ≡ b → T (goes own table c i)
+          behind some d true q = let l : c < i = h .best some .below in aheadIs (before own) (rankAt table c) (rankAt table i) c i (byNumber (eqb-true _ _ q) (omega arith))
+          behind some d false q =
+              aheadIs (before own) (rankAt table c) (rankAt table i) c i
+              (byRank (strict own .either (rankAt table i) (rankAt table c) (λ s. absurd (rw (← is, ← h .rank some, d) at s)) (λ x. eqb-false _ _ q (sym x))))
 
--- after n records: the candidates, no bad record yet, and none at which the search stops
-pub record Scanned (own far : ℕ) (table : List ℕ) (n : ℕ) (o t : Candidate) : Type 0 where
-  pub ours : Held true table (ours own far table) n o
-  pub theirs : Held false table (theirs own far table) n t
-  pub good : (j : ℕ) → j < n → T (bad table j) → ⊥
-  pub on : (j : ℕ) → j < n → T (stops own far table j) → ⊥
+          go : (b : Bool) → eqb c n ≡ b → (b || before own rank r) ≡ false → Held own table among n (suc i) c r
+          go true q e = absurd (subst T e tt)
+          go false q e =
+              let some : c ≡ n → ⊥ = eqb-false c n q in
+              record {
+                none = λ d. absurd (some d);
+                best = λ d. stays (order own table) (h .best some) (λ s. behind some e (eqb (rankAt table c) (rankAt table i)) refl);
+                rank = h .rank;
+              }
+
+-- after i of n records: the best of ours and of theirs, no bad record yet, and none at which the search stops
+pub record Scanned (own far : ℕ) (table : List ℕ) (n i : ℕ) (o p t q : ℕ) : Type 0 where
+  pub ours : Held true table (ours own far table) n i o p
+  pub theirs : Held false table (theirs own far table) n i t q
+  pub good : (j : ℕ) → j < i → T (bad table j) → ⊥
+  pub on : (j : ℕ) → j < i → T (stops own far table j) → ⊥
 
 isFalse : (b : Bool) → (T b → ⊥) → b ≡ false
 isFalse true n = absurd (n tt)
@@ -277,46 +269,63 @@ next : (n : ℕ) → n + 1 ≡ suc n
 next n = omega arith
 
 module _ (own far : ℕ) (table : List ℕ) where
-  pub scanStart : Scanned own far table 0 none none
-  scanStart =
+  pub scanStart : (n : ℕ) → Scanned own far table n 0 n 0 n 0
+  scanStart n =
       record {
-        ours = heldNone true table (ours own far table);
-        theirs = heldNone false table (theirs own far table);
+        ours = heldNone true table (ours own far table) n 0;
+        theirs = heldNone false table (theirs own far table) n 0;
         good = λ j h t. omega arith;
         on = λ j h t. omega arith;
       }
 
-  module _ {n : ℕ} {o t : Candidate} (s : Scanned own far table n o t) (ok : allowedAt table n ≡ true) where
-    pub scanBusy : free (stateAt table n) (flagsAt table n) ≡ false → Scanned own far table (n + 1) o t
+  module _ {n i o p t q : ℕ} (s : Scanned own far table n i o p t q) (below : i < n) (ok : allowedAt table i ≡ true) where
+    good : (j : ℕ) → j < suc i → T (bad table j) → ⊥
+    good = withLast i (λ j. T (bad table j) → ⊥) (s .good) (λ x. rw ok at x)
+
+    on : (T (stops own far table i) → ⊥) → (j : ℕ) → j < suc i → T (stops own far table j) → ⊥
+    on past = withLast i (λ j. T (stops own far table j) → ⊥) (s .on) past
+
+    pub scanBusy : free (stateAt table i) (flagsAt table i) ≡ false → Scanned own far table n (i + 1) o p t q
     scanBusy e =
-        rw (next n)
+        rw (next i)
         (record {
-          ours = heldPast true table (ours own far table) n o (s .ours) (λ x. rw e at x);
-          theirs = heldPast false table (theirs own far table) n t (s .theirs) (λ x. rw e at x);
-          good = withLast n (λ j. T (bad table j) → ⊥) (s .good) (λ x. rw ok at x);
-          on = withLast n (λ j. T (stops own far table j) → ⊥) (s .on) (λ x. rw e at x);
+          ours = heldPast true table (ours own far table) n (s .ours) (λ x. rw e at x);
+          theirs = heldPast false table (theirs own far table) n (s .theirs) (λ x. rw e at x);
+          good = good;
+          on = on (λ x. rw e at x);
         })
 
-    module _ (is : free (stateAt table n) (flagsAt table n) ≡ true) where
-      pub scanTheirs : controls own far n ≡ false → (r : ℕ) → r ≡ rankAt table n → Scanned own far table (n + 1) o (better false t n r)
-      scanTheirs e r q =
-          rw (next n)
-          (record {
-            ours = heldPast true table (ours own far table) n o (s .ours) (λ x. rw (is, e) at x);
-            theirs = heldNext false table (theirs own far table) n r t (s .theirs) (rw (is, e) tt) q;
-            good = withLast n (λ j. T (bad table j) → ⊥) (s .good) (λ x. rw ok at x);
-            on = withLast n (λ j. T (stops own far table j) → ⊥) (s .on) (λ x. rw (is, e) at x);
-          })
+    module _ (is : free (stateAt table i) (flagsAt table i) ≡ true) (rank : ℕ) (r : rank ≡ rankAt table i) where
+      module _ (e : controls own far i ≡ false) where
+        notOurs : Held true table (ours own far table) n (suc i) o p
+        notOurs = heldPast true table (ours own far table) n (s .ours) (λ x. rw (is, e) at x)
 
-      pub scanOurs : controls own far n ≡ true → (r : ℕ) → r ≡ rankAt table n → (r ≡ 0 → ⊥) → Scanned own far table (n + 1) (better true o n r) t
-      scanOurs e r q used =
-          rw (next n)
-          (record {
-            ours = heldNext true table (ours own far table) n r o (s .ours) (rw (is, e) tt) q;
-            theirs = heldPast false table (theirs own far table) n t (s .theirs) (λ x. rw (is, e) at x);
-            good = withLast n (λ j. T (bad table j) → ⊥) (s .good) (λ x. rw ok at x);
-            on = withLast n (λ j. T (stops own far table j) → ⊥) (s .on) (λ x. used (q ∙ eqb-true _ _ (isTrue _ (right (ours own far table n) _ x))));
-          })
+        pub scanTheirs : better false (eqb t n) rank q ≡ true → Scanned own far table n (i + 1) o p i rank
+        scanTheirs b =
+            rw (next i)
+            (record { ours = notOurs; theirs = heldNew false table (theirs own far table) n (s .theirs) below (rw (is, e) tt) rank r b; good = good; on = on (λ x. rw (is, e) at x) })
+
+        pub scanTheirsStay : better false (eqb t n) rank q ≡ false → Scanned own far table n (i + 1) o p t q
+        scanTheirsStay b =
+            rw (next i)
+            (record { ours = notOurs; theirs = heldStays false table (theirs own far table) n (s .theirs) below (rw (is, e) tt) rank r b; good = good; on = on (λ x. rw (is, e) at x) })
+
+      module _ (e : controls own far i ≡ true) (used : rank ≡ 0 → ⊥) where
+        notTheirs : Held false table (theirs own far table) n (suc i) t q
+        notTheirs = heldPast false table (theirs own far table) n (s .theirs) (λ x. rw (is, e) at x)
+
+        goesOn : T (stops own far table i) → ⊥
+        goesOn x = used (r ∙ eqb-true _ _ (isTrue _ (right (ours own far table i) _ x)))
+
+        pub scanOurs : better true (eqb o n) rank p ≡ true → Scanned own far table n (i + 1) i rank t q
+        scanOurs b =
+            rw (next i)
+            (record { ours = heldNew true table (ours own far table) n (s .ours) below (rw (is, e) tt) rank r b; theirs = notTheirs; good = good; on = on goesOn })
+
+        pub scanOursStay : better true (eqb o n) rank p ≡ false → Scanned own far table n (i + 1) o p t q
+        scanOursStay b =
+            rw (next i)
+            (record { ours = heldStays true table (ours own far table) n (s .ours) below (rw (is, e) tt) rank r b; theirs = notTheirs; good = good; on = on goesOn })
 
   -- the definition's choice, from the best of ours or of theirs
   choiceOurs : (n b k : ℕ) → Best (ours own far table) (goes true table) n b → looked own far table n ≡ k → choice own far table n ≡ taken b k
@@ -336,19 +345,19 @@ module _ (own far : ℕ) (table : List ℕ) where
   scanBad i n h e = rw (someAt n (bad table) i h (rw e tt))
 
   -- the whole table
-  pub scanEnd : {n : ℕ} {o t : Candidate} → Scanned own far table n o t → concluded o t n ≡ searched own far table n
-  scanEnd {n} {o} {t} s = rw (noneOf n (bad table) (s .good)) (go (o .found) refl (t .found) refl)
+  pub scanEnd : {n o p t q : ℕ} → Scanned own far table n n o p t q → concluded o t n ≡ searched own far table n
+  scanEnd {n} {o} {p} {t} {q} s = rw (noneOf n (bad table) (s .good)) (go (eqb o n) refl (eqb t n) refl)
     where
       whole : looked own far table n ≡ n
       whole = rw (noneOf n (stops own far table) (s .on))
 
-      go : (a : Bool) → o .found ≡ a → (b : Bool) → t .found ≡ b → cond a (taken (o .cic) n) (cond b (taken (t .cic) n) (refused 14)) ≡ choice own far table n
-      go true e b d = sym (choiceOurs n (o .cic) n (s .ours .best e) whole)
-      go false e true d = sym (choiceTheirs n (t .cic) (s .ours .none e) (s .theirs .best d))
-      go false e false d = sym (choiceNone n (s .ours .none e) (s .theirs .none d))
+      go : (a : Bool) → eqb o n ≡ a → (b : Bool) → eqb t n ≡ b → cond a (cond b (refused 14) (taken t n)) (taken o n) ≡ choice own far table n
+      go false e b d = sym (choiceOurs n o n (s .ours .best (eqb-false o n e)) whole)
+      go true e false d = sym (choiceTheirs n t (s .ours .none (eqb-true o n e)) (s .theirs .best (eqb-false t n d)))
+      go true e true d = sym (choiceNone n (s .ours .none (eqb-true o n e)) (s .theirs .none (eqb-true t n d)))
 
   -- one of ours with rank 0
-  module _ {i : ℕ} {o t : Candidate} (s : Scanned own far table i o t) (n : ℕ) (h : i < n) (ok : allowedAt table i ≡ true) (is : free (stateAt table i) (flagsAt table i) ≡ true) (c : controls own far i ≡ true) (unused : rankAt table i ≡ 0) where
+  module _ {n i o p t q : ℕ} (s : Scanned own far table n i o p t q) (h : i < n) (ok : allowedAt table i ≡ true) (is : free (stateAt table i) (flagsAt table i) ≡ true) (c : controls own far i ≡ true) (unused : rankAt table i ≡ 0) where
     here : T (stops own far table i)
     here = rw (is, c, unused) tt
 

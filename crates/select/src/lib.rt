@@ -3,24 +3,19 @@ use circuit::Cic;
 use circuit::PointCode;
 use layout::Stored;
 ghost use mathlib.Core.Path.{_≡_};
-ghost use mathlib.Core.Bool.{not, cond};
+ghost use mathlib.Core.Bool.{not};
+ghost use Prim.Native.Nat.{_≤_};
 ghost use lib.ListN.{length};
+ghost use Rattle.layout.specs.Layout.{recordsIn};
 ghost use Rattle.select.specs.First.{some};
 ghost use Rattle.select.specs.Selection.{refused, taken, free, selectIn};
-ghost use Rattle.select.specs.Search.{badFrom, none, before, better, stopped, concluded, searched};
+ghost use Rattle.select.specs.Search.{badFrom, before, better, stopped, concluded, searched};
 
 // What selection answers: the refusal's number, 0 where there is none; the circuit; how many records were looked at.
 pub struct Selected {
     pub refusal: u8,
     pub cic: Cic,
     pub looked: u32,
-}
-
-// The best circuit so far of those that we control, or of the others, and its rank.
-pub struct Candidate {
-    pub found: bool,
-    pub cic: u32,
-    pub rank: u64,
 }
 
 fn refused(n: u8) -> Selected
@@ -51,16 +46,6 @@ fn free(at: Stored) -> bool
     circuit::both(at.state == 0, !rec.far)
 }
 
-fn none() -> Candidate
-    ensures { λ r. ⌜ r ≡ none ⌝ }
-{
-    Candidate {
-        found: false,
-        cic: 0,
-        rank: 0,
-    }
-}
-
 // Whether a rank goes before another: of our own the lower one, of theirs the higher one.
 fn goes_before(own: bool, a: u64, b: u64) -> bool
     ensures { λ r. ⌜ r ≡ before own a b ⌝ }
@@ -68,23 +53,16 @@ fn goes_before(own: bool, a: u64, b: u64) -> bool
     if own { a < b } else { b < a }
 }
 
-// The better of the best circuit so far and a later one, to which equal ranks do not go.
-fn better(own: bool, best: Candidate, cic: u32, rank: u64) -> Candidate
-    ensures { λ r. ⌜ r ≡ better own best cic rank ⌝ }
+// Whether a circuit takes the place of the best so far, whose rank is `best` unless there is none. Of equal ranks the earlier circuit stays.
+fn better(own: bool, none: bool, rank: u64, best: u64) -> bool
+    ensures { λ r. ⌜ r ≡ better own none rank best ⌝ }
 {
-    if circuit::either(!best.found, goes_before(own, rank, best.rank)) {
-        Candidate {
-            found: true,
-            cic: cic,
-            rank: rank,
-        }
-    } else {
-        best
-    }
+    circuit::either(none, goes_before(own, rank, best))
 }
 
 // Whether all records from one on are allowed.
 fn allowed_from(table: &[u8], from: u32, records: u32) -> bool
+    requires { ⌜ records ≤ recordsIn (length (now table)) ⌝ }
     ensures { λ r. ⌜ r ≡ not (some records (badFrom (now (table .entry)) from)) ⌝ }
 {
     for i in from..records {
@@ -98,6 +76,7 @@ fn allowed_from(table: &[u8], from: u32, records: u32) -> bool
 
 // The search stopped at a circuit; the records behind it are judged all the same.
 fn stop(table: &[u8], cic: u32, looked: u32, records: u32) -> Selected
+    requires { ⌜ records ≤ recordsIn (length (now table)) ⌝ }
     ensures { λ r. ⌜ r ≡ stopped (now (table .entry)) cic looked records ⌝ }
 {
     if allowed_from(table, looked, records) {
@@ -107,25 +86,28 @@ fn stop(table: &[u8], cic: u32, looked: u32, records: u32) -> Selected
     }
 }
 
-// The whole table was looked at: the best of ours, else the best of theirs.
-fn conclude(ours: Candidate, theirs: Candidate, records: u32) -> Selected
+// The whole table was looked at: the best of ours, else the best of theirs. `records` stands for none.
+fn conclude(ours: u32, theirs: u32, records: u32) -> Selected
     ensures { λ r. ⌜ r ≡ concluded ours theirs records ⌝ }
 {
-    if ours.found {
-        return taken(ours.cic, records);
+    if ours != records {
+        return taken(ours, records);
     }
-    if theirs.found {
-        return taken(theirs.cic, records);
+    if theirs != records {
+        return taken(theirs, records);
     }
     refused(14)
 }
 
 // Judges each record and looks at it, and stops at one of our own with rank 0: none can have been released before it.
 fn search(own: PointCode, far: PointCode, table: &[u8], records: u32) -> Selected
+    requires { ⌜ records ≤ recordsIn (length (now table)) ⌝ }
     ensures { λ r. ⌜ r ≡ searched (own .0) (far .0) (now (table .entry)) records ⌝ }
 {
-    let mut ours = none();
-    let mut theirs = none();
+    let mut ours = records;
+    let mut ours_rank = 0;
+    let mut theirs = records;
+    let mut theirs_rank = 0;
     for i in 0..records {
         let at = layout::stored_at(table, Cic(i));
         if !layout::allowed(at.state, at.flags) {
@@ -135,13 +117,19 @@ fn search(own: PointCode, far: PointCode, table: &[u8], records: u32) -> Selecte
             continue;
         }
         if !circuit::controls(own, far, Cic(i)) {
-            theirs = better(false, theirs, i, at.rank);
+            if better(false, theirs == records, at.rank, theirs_rank) {
+                theirs = i;
+                theirs_rank = at.rank;
+            }
             continue;
         }
         if at.rank == 0 {
             return stop(table, i, i + 1, records);
         }
-        ours = better(true, ours, i, at.rank);
+        if better(true, ours == records, at.rank, ours_rank) {
+            ours = i;
+            ours_rank = at.rank;
+        }
     }
     conclude(ours, theirs, records)
 }

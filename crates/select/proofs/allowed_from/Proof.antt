@@ -26,7 +26,7 @@ allowed-requires c κs = search needs
 returns : tie.Need-returns Inv-loop μ-loop
 returns c =
     let a = c .before in let r = a .before in let l = r .before in
-    goodNot _ _ (l .before .loop .inv) (l .loop-test .taken) (judged _ _ (r .stored-at .ensures) (a .allowed .ensures) ∙ not-true _ (c .if1 .taken))
+    goodNot _ _ (l .before .loop .inv) (l .loop-test .taken) (judged _ _ _ (l .before .before .before .pre) (l .loop-test .taken) (r .stored-at .ensures) (a .allowed .ensures) ∙ not-true _ (c .if1 .taken))
 
 add-i : tie.Need-add-i Inv-loop μ-loop
 add-i c = search needs
@@ -36,8 +36,8 @@ loop-less c = search needs
 
 loop-again : tie.Need-loop-again Inv-loop μ-loop
 loop-again c =
-    let a = c .before in let r = a .before in
-    goodNext _ _ (r .before .before .loop .inv) (judged _ _ (r .stored-at .ensures) (a .allowed .ensures) ∙ not-false _ (c .if1 .left))
+    let a = c .before in let r = a .before in let l = r .before in
+    goodNext _ _ (l .before .loop .inv) (judged _ _ _ (l .before .before .before .pre) (l .loop-test .taken) (r .stored-at .ensures) (a .allowed .ensures) ∙ not-false _ (c .if1 .left))
 
 returns-2 : tie.Need-returns-2 Inv-loop μ-loop
 returns-2 c = goodEnd _ _ (c .before .loop .inv) (c .loop-test .left)

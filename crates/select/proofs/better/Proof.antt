@@ -11,10 +11,7 @@ either-requires : tie.Need-either-requires
 either-requires c κs = search needs
 
 returns : tie.Need-returns
-returns c = rw (← c .before .before .goes-before .ensures, ← c .before .either .ensures, c .if1 .taken)
-
-returns-2 : tie.Need-returns-2
-returns-2 c = rw (← c .before .before .goes-before .ensures, ← c .before .either .ensures, c .if1 .left)
+returns c = rw (c .either .ensures, c .before .goes-before .ensures)
 
 pub better-spec : {M : Type 1} → statement M
-better-spec = tie.close (tie.spec goes-before-requires either-requires returns returns-2)
+better-spec = tie.close (tie.spec goes-before-requires either-requires returns)

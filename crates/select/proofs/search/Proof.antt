@@ -3,26 +3,22 @@
 use Prim.Native.Nat.{_-_, _≤_}
 use native.Mathlib.Omega.{arith}
 use mathlib.Core.Path.{_≡_, sym, _∙_}
+use mathlib.Core.Logic.{⊎-elim}
 use borrow.Author.Tests.{not-true, not-false}
 use borrow.Author.Needs.{needs}
-use Rattle.select.specs.Search.{judged, freeAt, rankIs, Scanned, scanStart, scanBusy, scanTheirs, scanOurs, scanBad, scanStop, scanEnd}
+use Rattle.select.specs.Search.{judged, freeAt, rankIs, Scanned, scanStart, scanBusy, scanTheirs, scanTheirsStay, scanOurs, scanOursStay, scanBad, scanStop, scanEnd}
 use Rattle.select.proofs.search.Statement.{statement}
 use Rattle.select.proofs.search.Tie as tie
 
 abbrev Inv-loop : tie.InvT-loop
-Inv-loop own far table records ours₀ theirs₀ i₀ ours theirs i = (i ≤ records) × Scanned (own .0) (far .0) table i ours theirs
+Inv-loop own far table records ours₀ ours-rank₀ theirs₀ theirs-rank₀ i₀ ours ours-rank theirs theirs-rank i =
+    (i ≤ records) × Scanned (own .0) (far .0) table records i ours ours-rank theirs theirs-rank
 
 abbrev μ-loop : tie.MeasureT-loop
-μ-loop own far table records ours₀ theirs₀ i₀ ours theirs i = records - i
-
-none-requires : tie.Need-none-requires Inv-loop μ-loop
-none-requires c κs = search needs
-
-none-requires-2 : tie.Need-none-requires-2 Inv-loop μ-loop
-none-requires-2 c κs = search needs
+μ-loop own far table records ours₀ ours-rank₀ theirs₀ theirs-rank₀ i₀ ours ours-rank theirs theirs-rank i = records - i
 
 loop-holds : tie.Need-loop-holds Inv-loop μ-loop
-loop-holds c = (search needs, rw (c .none2 .ensures, c .before .none .ensures) (scanStart _ _ _))
+loop-holds c = (search needs, scanStart _ _ _ _)
 
 stored-at-requires : tie.Need-stored-at-requires Inv-loop μ-loop
 stored-at-requires c κs = search needs
@@ -35,8 +31,8 @@ refused-requires c κs = search needs
 
 returns : tie.Need-returns Inv-loop μ-loop
 returns c =
-    let a = c .before .before in let r = a .before in let l = r .before in
-    c .refused .ensures ∙ scanBad _ _ _ _ _ (l .loop-test .taken) (judged _ _ (r .stored-at .ensures) (a .allowed .ensures) ∙ not-true _ (c .before .if1 .taken))
+    let a = c .before .before in let r = a .before in let l = r .before in let all = l .before .before .before .pre in
+    c .refused .ensures ∙ scanBad _ _ _ _ _ (l .loop-test .taken) (judged _ _ _ all (l .loop-test .taken) (r .stored-at .ensures) (a .allowed .ensures) ∙ not-true _ (c .before .if1 .taken))
 
 free-requires : tie.Need-free-requires Inv-loop μ-loop
 free-requires c κs = search needs
@@ -49,10 +45,10 @@ loop-less c = search needs
 
 loop-again : tie.Need-loop-again Inv-loop μ-loop
 loop-again c =
-    let f = c .before in let a = f .before .before in let r = a .before in let l = r .before .before in (
+    let f = c .before in let a = f .before .before in let r = a .before in let l = r .before in let all = l .before .before .before .pre in (
       search needs,
-      scanBusy _ _ _ (l .loop .inv .1) (judged _ _ (r .stored-at .ensures) (a .allowed .ensures) ∙ not-false _ (f .before .if1 .left))
-          (freeAt _ _ (r .stored-at .ensures) (f .free .ensures) ∙ not-true _ (c .if2 .taken)),
+      scanBusy _ _ _ (l .before .loop .inv .1) (l .loop-test .taken) (judged _ _ _ all (l .loop-test .taken) (r .stored-at .ensures) (a .allowed .ensures) ∙ not-false _ (f .before .if1 .left))
+          (freeAt _ _ _ all (l .loop-test .taken) (r .stored-at .ensures) (f .free .ensures) ∙ not-true _ (c .if2 .taken)),
     )
 
 controls-requires : tie.Need-controls-requires Inv-loop μ-loop
@@ -69,12 +65,14 @@ loop-less-2 c = search needs
 
 loop-again-2 : tie.Need-loop-again-2 Inv-loop μ-loop
 loop-again-2 c =
-    let k = c .before .before in let f = k .before .before in let a = f .before .before in let r = a .before in let l = r .before .before in (
+    let b = c .before in let k = b .before .before in let f = k .before .before in let a = f .before .before in let r = a .before in let l = r .before in
+    let all = l .before .before .before .pre in let h = l .loop-test .taken in let e = r .stored-at .ensures in
+    let ok = judged _ _ _ all h e (a .allowed .ensures) ∙ not-false _ (f .before .if1 .left) in
+    let is = freeAt _ _ _ all h e (f .free .ensures) ∙ not-false _ (k .before .if2 .left) in
+    let con = sym (k .controls .ensures) ∙ not-true _ (b .before .if3 .taken) in (
       search needs,
-      rw (c .better .ensures)
-          (scanTheirs _ _ _ (l .loop .inv .1) (judged _ _ (r .stored-at .ensures) (a .allowed .ensures) ∙ not-false _ (f .before .if1 .left))
-          (freeAt _ _ (r .stored-at .ensures) (f .free .ensures) ∙ not-false _ (k .before .if2 .left))
-          (sym (k .controls .ensures) ∙ not-true _ (c .before .if3 .taken)) _ (rankIs _ _ (r .stored-at .ensures))),
+      ⊎-elim (λ w. rw (w .1, w .2) (scanTheirs _ _ _ (l .before .loop .inv .1) h ok is _ (rankIs _ _ _ all h e) con (sym (b .better .ensures) ∙ w .0 .taken)))
+          (λ w. rw (w .1, w .2) (scanTheirsStay _ _ _ (l .before .loop .inv .1) h ok is _ (rankIs _ _ _ all h e) con (sym (b .better .ensures) ∙ w .0 .left))) (c .if4 .came),
     )
 
 add-stop : tie.Need-add-stop Inv-loop μ-loop
@@ -86,10 +84,11 @@ stop-requires c κs = search needs
 returns-2 : tie.Need-returns-2 Inv-loop μ-loop
 returns-2 c =
     let z = c .before in let k = z .before .before .before in let f = k .before .before in let a = f .before .before in let r = a .before in let l = r .before in
+    let all = l .before .before .before .pre in let h = l .loop-test .taken in let e = r .stored-at .ensures in
     c .stop .ensures
-    ∙ scanStop _ _ _ (l .before .loop .inv .1) _ (l .loop-test .taken) (judged _ _ (r .stored-at .ensures) (a .allowed .ensures) ∙ not-false _ (f .before .if1 .left))
-    (freeAt _ _ (r .stored-at .ensures) (f .free .ensures) ∙ not-false _ (k .before .if2 .left))
-    (sym (k .controls .ensures) ∙ not-false _ (z .before .before .if3 .left)) (sym (rankIs _ _ (r .stored-at .ensures)) ∙ z .if4 .taken)
+    ∙ scanStop _ _ _ (l .before .loop .inv .1) h (judged _ _ _ all h e (a .allowed .ensures) ∙ not-false _ (f .before .if1 .left))
+    (freeAt _ _ _ all h e (f .free .ensures) ∙ not-false _ (k .before .if2 .left))
+    (sym (k .controls .ensures) ∙ not-false _ (z .before .before .if3 .left)) (sym (rankIs _ _ _ all h e) ∙ z .if5 .taken)
 
 better-requires-2 : tie.Need-better-requires-2 Inv-loop μ-loop
 better-requires-2 c κs = search needs
@@ -102,12 +101,14 @@ loop-less-3 c = search needs
 
 loop-again-3 : tie.Need-loop-again-3 Inv-loop μ-loop
 loop-again-3 c =
-    let z = c .before in let k = z .before .before .before in let f = k .before .before in let a = f .before .before in let r = a .before in let l = r .before .before in (
+    let b = c .before in let z = b .before in let k = z .before .before .before in let f = k .before .before in let a = f .before .before in let r = a .before in let l = r .before in
+    let all = l .before .before .before .pre in let h = l .loop-test .taken in let e = r .stored-at .ensures in
+    let ok = judged _ _ _ all h e (a .allowed .ensures) ∙ not-false _ (f .before .if1 .left) in
+    let is = freeAt _ _ _ all h e (f .free .ensures) ∙ not-false _ (k .before .if2 .left) in
+    let con = sym (k .controls .ensures) ∙ not-false _ (z .before .before .if3 .left) in (
       search needs,
-      rw (c .better2 .ensures)
-          (scanOurs _ _ _ (l .loop .inv .1) (judged _ _ (r .stored-at .ensures) (a .allowed .ensures) ∙ not-false _ (f .before .if1 .left))
-          (freeAt _ _ (r .stored-at .ensures) (f .free .ensures) ∙ not-false _ (k .before .if2 .left))
-          (sym (k .controls .ensures) ∙ not-false _ (z .before .before .if3 .left)) _ (rankIs _ _ (r .stored-at .ensures)) (z .if4 .left)),
+      ⊎-elim (λ w. rw (w .1, w .2) (scanOurs _ _ _ (l .before .loop .inv .1) h ok is _ (rankIs _ _ _ all h e) con (z .if5 .left) (sym (b .better2 .ensures) ∙ w .0 .taken)))
+          (λ w. rw (w .1, w .2) (scanOursStay _ _ _ (l .before .loop .inv .1) h ok is _ (rankIs _ _ _ all h e) con (z .if5 .left) (sym (b .better2 .ensures) ∙ w .0 .left))) (c .if6 .came),
     )
 
 conclude-requires : tie.Need-conclude-requires Inv-loop μ-loop
@@ -116,8 +117,8 @@ conclude-requires c κs = search needs
 returns-3 : tie.Need-returns-3 Inv-loop μ-loop
 returns-3 c =
     let l = c .before .before in
-    let all : l .loop .i ≡ l .before .before .before .before .args .records = omega (arith, c .before .loop-test .left, l .loop .inv .0) in
-    c .conclude .ensures ∙ rw all at (scanEnd _ _ _ (l .loop .inv .1))
+    let all : l .loop .i ≡ l .before .before .args .records = omega (arith, c .before .loop-test .left, l .loop .inv .0) in
+    c .conclude .ensures ∙ scanEnd _ _ _ (rw all at (l .loop .inv .1))
 
 pub search-spec : {M : Type 1} → statement M
 search-spec =
@@ -125,8 +126,6 @@ search-spec =
     (tie.spec
     Inv-loop
     μ-loop
-    none-requires
-    none-requires-2
     loop-holds
     stored-at-requires
     allowed-requires
