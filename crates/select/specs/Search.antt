@@ -254,10 +254,10 @@ module _ (own : Bool) (table : List ℕ) (among : ℕ → Bool) (n : ℕ) where
                 rank = h .rank;
               }
 
--- after i of n records: the best of ours and of theirs, no bad record yet, and none at which the search stops
+-- after i of n records: the best of ours, where there is none the best of theirs, no bad record yet, and none at which the search stops
 pub record Scanned (own far : ℕ) (table : List ℕ) (n i : ℕ) (o p t q : ℕ) : Type 0 where
   pub ours : Held true table (ours own far table) n i o p
-  pub theirs : Held false table (theirs own far table) n i t q
+  pub theirs : o ≡ n → Held false table (theirs own far table) n i t q
   pub good : (j : ℕ) → j < i → T (bad table j) → ⊥
   pub on : (j : ℕ) → j < i → T (stops own far table j) → ⊥
 
@@ -273,7 +273,7 @@ module _ (own far : ℕ) (table : List ℕ) where
   scanStart n =
       record {
         ours = heldNone true table (ours own far table) n 0;
-        theirs = heldNone false table (theirs own far table) n 0;
+        theirs = λ e. heldNone false table (theirs own far table) n 0;
         good = λ j h t. omega arith;
         on = λ j h t. omega arith;
       }
@@ -290,7 +290,7 @@ module _ (own far : ℕ) (table : List ℕ) where
         rw (next i)
         (record {
           ours = heldPast true table (ours own far table) n (s .ours) (λ x. rw e at x);
-          theirs = heldPast false table (theirs own far table) n (s .theirs) (λ x. rw e at x);
+          theirs = λ d. heldPast false table (theirs own far table) n (s .theirs d) (λ x. rw e at x);
           good = good;
           on = on (λ x. rw e at x);
         })
@@ -300,32 +300,33 @@ module _ (own far : ℕ) (table : List ℕ) where
         notOurs : Held true table (ours own far table) n (suc i) o p
         notOurs = heldPast true table (ours own far table) n (s .ours) (λ x. rw (is, e) at x)
 
-        pub scanTheirs : better false (eqb t n) rank q ≡ true → Scanned own far table n (i + 1) o p i rank
-        scanTheirs b =
-            rw (next i)
-            (record { ours = notOurs; theirs = heldNew false table (theirs own far table) n (s .theirs) below (rw (is, e) tt) rank r b; good = good; on = on (λ x. rw (is, e) at x) })
+        pub scanOver : (o ≡ n → ⊥) → Scanned own far table n (i + 1) o p t q
+        scanOver some = rw (next i) (record { ours = notOurs; theirs = λ d. absurd (some d); good = good; on = on (λ x. rw (is, e) at x) })
 
-        pub scanTheirsStay : better false (eqb t n) rank q ≡ false → Scanned own far table n (i + 1) o p t q
-        scanTheirsStay b =
-            rw (next i)
-            (record { ours = notOurs; theirs = heldStays false table (theirs own far table) n (s .theirs) below (rw (is, e) tt) rank r b; good = good; on = on (λ x. rw (is, e) at x) })
+        module _ (none : o ≡ n) where
+          pub scanTheirs : better false (eqb t n) rank q ≡ true → Scanned own far table n (i + 1) o p i rank
+          scanTheirs b =
+              rw (next i)
+              (record { ours = notOurs; theirs = λ d. heldNew false table (theirs own far table) n (s .theirs none) below (rw (is, e) tt) rank r b; good = good; on = on (λ x. rw (is, e) at x) })
+
+          pub scanTheirsStay : better false (eqb t n) rank q ≡ false → Scanned own far table n (i + 1) o p t q
+          scanTheirsStay b =
+              rw (next i)
+              (record { ours = notOurs; theirs = λ d. heldStays false table (theirs own far table) n (s .theirs none) below (rw (is, e) tt) rank r b; good = good; on = on (λ x. rw (is, e) at x) })
 
       module _ (e : controls own far i ≡ true) (used : rank ≡ 0 → ⊥) where
-        notTheirs : Held false table (theirs own far table) n (suc i) t q
-        notTheirs = heldPast false table (theirs own far table) n (s .theirs) (λ x. rw (is, e) at x)
-
         goesOn : T (stops own far table i) → ⊥
         goesOn x = used (r ∙ eqb-true _ _ (isTrue _ (right (ours own far table i) _ x)))
 
         pub scanOurs : better true (eqb o n) rank p ≡ true → Scanned own far table n (i + 1) i rank t q
         scanOurs b =
             rw (next i)
-            (record { ours = heldNew true table (ours own far table) n (s .ours) below (rw (is, e) tt) rank r b; theirs = notTheirs; good = good; on = on goesOn })
+            (record { ours = heldNew true table (ours own far table) n (s .ours) below (rw (is, e) tt) rank r b; theirs = λ d. absurd (omega arith); good = good; on = on goesOn })
 
         pub scanOursStay : better true (eqb o n) rank p ≡ false → Scanned own far table n (i + 1) o p t q
         scanOursStay b =
             rw (next i)
-            (record { ours = heldStays true table (ours own far table) n (s .ours) below (rw (is, e) tt) rank r b; theirs = notTheirs; good = good; on = on goesOn })
+            (record { ours = heldStays true table (ours own far table) n (s .ours) below (rw (is, e) tt) rank r b; theirs = λ d. heldPast false table (theirs own far table) n (s .theirs d) (λ x. rw (is, e) at x); good = good; on = on goesOn })
 
   -- the definition's choice, from the best of ours or of theirs
   choiceOurs : (n b k : ℕ) → Best (ours own far table) (goes true table) n b → looked own far table n ≡ k → choice own far table n ≡ taken b k
@@ -353,8 +354,8 @@ module _ (own far : ℕ) (table : List ℕ) where
 
       go : (a : Bool) → eqb o n ≡ a → (b : Bool) → eqb t n ≡ b → cond a (cond b (refused 14) (taken t n)) (taken o n) ≡ choice own far table n
       go false e b d = sym (choiceOurs n o n (s .ours .best (eqb-false o n e)) whole)
-      go true e false d = sym (choiceTheirs n t (s .ours .none (eqb-true o n e)) (s .theirs .best (eqb-false t n d)))
-      go true e true d = sym (choiceNone n (s .ours .none (eqb-true o n e)) (s .theirs .none (eqb-true t n d)))
+      go true e false d = sym (choiceTheirs n t (s .ours .none (eqb-true o n e)) (s .theirs (eqb-true o n e) .best (eqb-false t n d)))
+      go true e true d = sym (choiceNone n (s .ours .none (eqb-true o n e)) (s .theirs (eqb-true o n e) .none (eqb-true t n d)))
 
   -- one of ours with rank 0
   module _ {n i o p t q : ℕ} (s : Scanned own far table n i o p t q) (h : i < n) (ok : allowedAt table i ≡ true) (is : free (stateAt table i) (flagsAt table i) ≡ true) (c : controls own far i ≡ true) (unused : rankAt table i ≡ 0) where

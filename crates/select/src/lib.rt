@@ -99,7 +99,8 @@ fn conclude(ours: u32, theirs: u32, records: u32) -> Selected
     refused(14)
 }
 
-// Judges each record and looks at it, and stops at one of our own with rank 0: none can have been released before it.
+// Judges each record and looks at it, and stops at one of our own with rank 0: none can have been released before it. Once one of our own is found,
+// theirs are passed over.
 fn search(own: PointCode, far: PointCode, table: &[u8], records: u32) -> Selected
     requires { ⌜ records ≤ recordsIn (length (now table)) ⌝ }
     ensures { λ r. ⌜ r ≡ searched (own .0) (far .0) (now (table .entry)) records ⌝ }
@@ -117,6 +118,9 @@ fn search(own: PointCode, far: PointCode, table: &[u8], records: u32) -> Selecte
             continue;
         }
         if !circuit::controls(own, far, Cic(i)) {
+            if ours != records {
+                continue;
+            }
             if better(false, theirs == records, at.rank, theirs_rank) {
                 theirs = i;
                 theirs_rank = at.rank;

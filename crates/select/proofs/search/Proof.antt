@@ -6,7 +6,7 @@ use mathlib.Core.Path.{_≡_, sym, _∙_}
 use mathlib.Core.Logic.{⊎-elim}
 use borrow.Author.Tests.{not-true, not-false}
 use borrow.Author.Needs.{needs}
-use Rattle.select.specs.Search.{judged, freeAt, rankIs, Scanned, scanStart, scanBusy, scanTheirs, scanTheirsStay, scanOurs, scanOursStay, scanBad, scanStop, scanEnd}
+use Rattle.select.specs.Search.{judged, freeAt, rankIs, Scanned, scanStart, scanBusy, scanOver, scanTheirs, scanTheirsStay, scanOurs, scanOursStay, scanBad, scanStop, scanEnd}
 use Rattle.select.proofs.search.Statement.{statement}
 use Rattle.select.proofs.search.Tie as tie
 
@@ -54,25 +54,43 @@ loop-again c =
 controls-requires : tie.Need-controls-requires Inv-loop μ-loop
 controls-requires c κs = search needs
 
-better-requires : tie.Need-better-requires Inv-loop μ-loop
-better-requires c κs = search needs
-
 add-i-2 : tie.Need-add-i-2 Inv-loop μ-loop
 add-i-2 c = search needs
 
 loop-less-2 : tie.Need-loop-less-2 Inv-loop μ-loop
 loop-less-2 c = search needs
 
+-- one of theirs, and one of ours is found already
 loop-again-2 : tie.Need-loop-again-2 Inv-loop μ-loop
 loop-again-2 c =
-    let b = c .before in let k = b .before .before in let f = k .before .before in let a = f .before .before in let r = a .before in let l = r .before in
+    let k = c .before .before in let f = k .before .before in let a = f .before .before in let r = a .before in let l = r .before in
+    let all = l .before .before .before .pre in let h = l .loop-test .taken in let e = r .stored-at .ensures in
+    let ok = judged _ _ _ all h e (a .allowed .ensures) ∙ not-false _ (f .before .if1 .left) in
+    let is = freeAt _ _ _ all h e (f .free .ensures) ∙ not-false _ (k .before .if2 .left) in (
+      search needs,
+      scanOver _ _ _ (l .before .loop .inv .1) h ok is _ (rankIs _ _ _ all h e) (sym (k .controls .ensures) ∙ not-true _ (c .before .if3 .taken)) (c .if4 .taken),
+    )
+
+better-requires : tie.Need-better-requires Inv-loop μ-loop
+better-requires c κs = search needs
+
+add-i-3 : tie.Need-add-i-3 Inv-loop μ-loop
+add-i-3 c = search needs
+
+loop-less-3 : tie.Need-loop-less-3 Inv-loop μ-loop
+loop-less-3 c = search needs
+
+-- one of theirs, which is the best so far or is not
+loop-again-3 : tie.Need-loop-again-3 Inv-loop μ-loop
+loop-again-3 c =
+    let b = c .before in let k = b .before .before .before in let f = k .before .before in let a = f .before .before in let r = a .before in let l = r .before in
     let all = l .before .before .before .pre in let h = l .loop-test .taken in let e = r .stored-at .ensures in
     let ok = judged _ _ _ all h e (a .allowed .ensures) ∙ not-false _ (f .before .if1 .left) in
     let is = freeAt _ _ _ all h e (f .free .ensures) ∙ not-false _ (k .before .if2 .left) in
-    let con = sym (k .controls .ensures) ∙ not-true _ (b .before .if3 .taken) in (
+    let con = sym (k .controls .ensures) ∙ not-true _ (b .before .before .if3 .taken) in (
       search needs,
-      ⊎-elim (λ w. rw (w .1, w .2) (scanTheirs _ _ _ (l .before .loop .inv .1) h ok is _ (rankIs _ _ _ all h e) con (sym (b .better .ensures) ∙ w .0 .taken)))
-          (λ w. rw (w .1, w .2) (scanTheirsStay _ _ _ (l .before .loop .inv .1) h ok is _ (rankIs _ _ _ all h e) con (sym (b .better .ensures) ∙ w .0 .left))) (c .if4 .came),
+      ⊎-elim (λ w. rw (w .1, w .2) (scanTheirs _ _ _ (l .before .loop .inv .1) h ok is _ (rankIs _ _ _ all h e) con (b .before .if4 .left) (sym (b .better .ensures) ∙ w .0 .taken)))
+          (λ w. rw (w .1, w .2) (scanTheirsStay _ _ _ (l .before .loop .inv .1) h ok is _ (rankIs _ _ _ all h e) con (b .before .if4 .left) (sym (b .better .ensures) ∙ w .0 .left))) (c .if5 .came),
     )
 
 add-stop : tie.Need-add-stop Inv-loop μ-loop
@@ -81,34 +99,36 @@ add-stop c = search needs
 stop-requires : tie.Need-stop-requires Inv-loop μ-loop
 stop-requires c κs = search needs
 
+-- one of ours with rank 0
 returns-2 : tie.Need-returns-2 Inv-loop μ-loop
 returns-2 c =
     let z = c .before in let k = z .before .before .before in let f = k .before .before in let a = f .before .before in let r = a .before in let l = r .before in
     let all = l .before .before .before .pre in let h = l .loop-test .taken in let e = r .stored-at .ensures in
+    let ok = judged _ _ _ all h e (a .allowed .ensures) ∙ not-false _ (f .before .if1 .left) in
+    let is = freeAt _ _ _ all h e (f .free .ensures) ∙ not-false _ (k .before .if2 .left) in
     c .stop .ensures
-    ∙ scanStop _ _ _ (l .before .loop .inv .1) h (judged _ _ _ all h e (a .allowed .ensures) ∙ not-false _ (f .before .if1 .left))
-    (freeAt _ _ _ all h e (f .free .ensures) ∙ not-false _ (k .before .if2 .left))
-    (sym (k .controls .ensures) ∙ not-false _ (z .before .before .if3 .left)) (sym (rankIs _ _ _ all h e) ∙ z .if5 .taken)
+    ∙ scanStop _ _ _ (l .before .loop .inv .1) h ok is (sym (k .controls .ensures) ∙ not-false _ (z .before .before .if3 .left)) (sym (rankIs _ _ _ all h e) ∙ z .if6 .taken)
 
 better-requires-2 : tie.Need-better-requires-2 Inv-loop μ-loop
 better-requires-2 c κs = search needs
 
-add-i-3 : tie.Need-add-i-3 Inv-loop μ-loop
-add-i-3 c = search needs
+add-i-4 : tie.Need-add-i-4 Inv-loop μ-loop
+add-i-4 c = search needs
 
-loop-less-3 : tie.Need-loop-less-3 Inv-loop μ-loop
-loop-less-3 c = search needs
+loop-less-4 : tie.Need-loop-less-4 Inv-loop μ-loop
+loop-less-4 c = search needs
 
-loop-again-3 : tie.Need-loop-again-3 Inv-loop μ-loop
-loop-again-3 c =
+-- one of ours, which is the best so far or is not
+loop-again-4 : tie.Need-loop-again-4 Inv-loop μ-loop
+loop-again-4 c =
     let b = c .before in let z = b .before in let k = z .before .before .before in let f = k .before .before in let a = f .before .before in let r = a .before in let l = r .before in
     let all = l .before .before .before .pre in let h = l .loop-test .taken in let e = r .stored-at .ensures in
     let ok = judged _ _ _ all h e (a .allowed .ensures) ∙ not-false _ (f .before .if1 .left) in
     let is = freeAt _ _ _ all h e (f .free .ensures) ∙ not-false _ (k .before .if2 .left) in
     let con = sym (k .controls .ensures) ∙ not-false _ (z .before .before .if3 .left) in (
       search needs,
-      ⊎-elim (λ w. rw (w .1, w .2) (scanOurs _ _ _ (l .before .loop .inv .1) h ok is _ (rankIs _ _ _ all h e) con (z .if5 .left) (sym (b .better2 .ensures) ∙ w .0 .taken)))
-          (λ w. rw (w .1, w .2) (scanOursStay _ _ _ (l .before .loop .inv .1) h ok is _ (rankIs _ _ _ all h e) con (z .if5 .left) (sym (b .better2 .ensures) ∙ w .0 .left))) (c .if6 .came),
+      ⊎-elim (λ w. rw (w .1, w .2) (scanOurs _ _ _ (l .before .loop .inv .1) h ok is _ (rankIs _ _ _ all h e) con (z .if6 .left) (sym (b .better2 .ensures) ∙ w .0 .taken)))
+          (λ w. rw (w .1, w .2) (scanOursStay _ _ _ (l .before .loop .inv .1) h ok is _ (rankIs _ _ _ all h e) con (z .if6 .left) (sym (b .better2 .ensures) ∙ w .0 .left))) (c .if7 .came),
     )
 
 conclude-requires : tie.Need-conclude-requires Inv-loop μ-loop
@@ -136,16 +156,19 @@ search-spec =
     loop-less
     loop-again
     controls-requires
-    better-requires
     add-i-2
     loop-less-2
     loop-again-2
+    better-requires
+    add-i-3
+    loop-less-3
+    loop-again-3
     add-stop
     stop-requires
     returns-2
     better-requires-2
-    add-i-3
-    loop-less-3
-    loop-again-3
+    add-i-4
+    loop-less-4
+    loop-again-4
     conclude-requires
     returns-3)
