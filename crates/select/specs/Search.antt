@@ -25,15 +25,15 @@ abbrev pub before : (own : Bool) → (a b : ℕ) → Bool
 before own a b = cond own (ltb a b) (ltb b a)
 
 -- a later circuit takes the place of the best so far
-abbrev pub better : (own none : Bool) → (rank best : ℕ) → Bool
+abbrev better : (own none : Bool) → (rank best : ℕ) → Bool
 better own none rank best = none || before own rank best
 
 -- where the search stops, and where it has looked at n records
 abbrev pub stopped : List ℕ → (cic looked n : ℕ) → Selected
 stopped table cic looked n = cond (some n (badFrom table looked)) (refused 12) (taken cic looked)
 
-abbrev pub concluded : (ours theirs n : ℕ) → Selected
-concluded ours theirs n = cond (eqb ours n) (cond (eqb theirs n) (refused 14) (taken theirs n)) (taken ours n)
+abbrev pub concluded : (theirs n : ℕ) → Selected
+concluded theirs n = cond (eqb theirs n) (refused 14) (taken theirs n)
 
 -- the whole search in n records
 abbrev pub searched : (own far : ℕ) → List ℕ → (n : ℕ) → Selected
@@ -300,16 +300,18 @@ module _ (own far : ℕ) (table : List ℕ) where
         notOurs : Held true table (ours own far table) n (suc i) o p
         notOurs = heldPast true table (ours own far table) n (s .ours) (λ x. rw (is, e) at x)
 
+        -- where one of ours is found
         pub scanOver : (o ≡ n → ⊥) → Scanned own far table n (i + 1) o p t q
         scanOver some = rw (next i) (record { ours = notOurs; theirs = λ d. absurd (some d); good = good; on = on (λ x. rw (is, e) at x) })
 
+        -- and where none is
         module _ (none : o ≡ n) where
-          pub scanTheirs : better false (eqb t n) rank q ≡ true → Scanned own far table n (i + 1) o p i rank
+          pub scanTheirs : (eqb t n || ltb q rank) ≡ true → Scanned own far table n (i + 1) o p i rank
           scanTheirs b =
               rw (next i)
               (record { ours = notOurs; theirs = λ d. heldNew false table (theirs own far table) n (s .theirs none) below (rw (is, e) tt) rank r b; good = good; on = on (λ x. rw (is, e) at x) })
 
-          pub scanTheirsStay : better false (eqb t n) rank q ≡ false → Scanned own far table n (i + 1) o p t q
+          pub scanTheirsStay : (eqb t n || ltb q rank) ≡ false → Scanned own far table n (i + 1) o p t q
           scanTheirsStay b =
               rw (next i)
               (record { ours = notOurs; theirs = λ d. heldStays false table (theirs own far table) n (s .theirs none) below (rw (is, e) tt) rank r b; good = good; on = on (λ x. rw (is, e) at x) })
@@ -318,15 +320,28 @@ module _ (own far : ℕ) (table : List ℕ) where
         goesOn : T (stops own far table i) → ⊥
         goesOn x = used (r ∙ eqb-true _ _ (isTrue _ (right (ours own far table i) _ x)))
 
-        pub scanOurs : better true (eqb o n) rank p ≡ true → Scanned own far table n (i + 1) i rank t q
-        scanOurs b =
+        new : better true (eqb o n) rank p ≡ true → Scanned own far table n (i + 1) i rank n 0
+        new b =
             rw (next i)
             (record { ours = heldNew true table (ours own far table) n (s .ours) below (rw (is, e) tt) rank r b; theirs = λ d. absurd (omega arith); good = good; on = on goesOn })
 
-        pub scanOursStay : better true (eqb o n) rank p ≡ false → Scanned own far table n (i + 1) o p t q
-        scanOursStay b =
-            rw (next i)
-            (record { ours = heldStays true table (ours own far table) n (s .ours) below (rw (is, e) tt) rank r b; theirs = λ d. heldPast false table (theirs own far table) n (s .theirs d) (λ x. rw (is, e) at x); good = good; on = on goesOn })
+        pub scanFirst : o ≡ n → Scanned own far table n (i + 1) i rank n 0
+        scanFirst none = new (rw (eq-eqb o n none))
+
+        -- a later one of ours
+        module _ (some : o ≡ n → ⊥) where
+          pub scanOurs : rank < p → Scanned own far table n (i + 1) i rank n 0
+          scanOurs h = new (rw (ne-eqb o n some, lt-ltb rank p h))
+
+          pub scanOursStay : p ≤ rank → Scanned own far table n (i + 1) o p t q
+          scanOursStay h =
+              rw (next i)
+              (record {
+                ours = heldStays true table (ours own far table) n (s .ours) below (rw (is, e) tt) rank r (rw (ne-eqb o n some, le-ltb rank p h));
+                theirs = λ d. absurd (some d);
+                good = good;
+                on = on goesOn;
+              })
 
   -- the definition's choice, from the best of ours or of theirs
   choiceOurs : (n b k : ℕ) → Best (ours own far table) (goes true table) n b → looked own far table n ≡ k → choice own far table n ≡ taken b k
@@ -345,17 +360,17 @@ module _ (own far : ℕ) (table : List ℕ) where
   pub scanBad : (i n : ℕ) → i < n → allowedAt table i ≡ false → refused 12 ≡ searched own far table n
   scanBad i n h e = rw (someAt n (bad table) i h (rw e tt))
 
-  -- the whole table
-  pub scanEnd : {n o p t q : ℕ} → Scanned own far table n n o p t q → concluded o t n ≡ searched own far table n
-  scanEnd {n} {o} {p} {t} {q} s = rw (noneOf n (bad table) (s .good)) (go (eqb o n) refl (eqb t n) refl)
-    where
-      whole : looked own far table n ≡ n
-      whole = rw (noneOf n (stops own far table) (s .on))
+  -- the whole table, where none of ours was found and where one was
+  module _ {n o p t q : ℕ} (s : Scanned own far table n n o p t q) where
+    pub scanEnd : o ≡ n → concluded t n ≡ searched own far table n
+    scanEnd none = rw (noneOf n (bad table) (s .good)) (go (eqb t n) refl)
+      where
+        go : (b : Bool) → eqb t n ≡ b → cond b (refused 14) (taken t n) ≡ choice own far table n
+        go false d = sym (choiceTheirs n t (s .ours .none none) (s .theirs none .best (eqb-false t n d)))
+        go true d = sym (choiceNone n (s .ours .none none) (s .theirs none .none (eqb-true t n d)))
 
-      go : (a : Bool) → eqb o n ≡ a → (b : Bool) → eqb t n ≡ b → cond a (cond b (refused 14) (taken t n)) (taken o n) ≡ choice own far table n
-      go false e b d = sym (choiceOurs n o n (s .ours .best (eqb-false o n e)) whole)
-      go true e false d = sym (choiceTheirs n t (s .ours .none (eqb-true o n e)) (s .theirs (eqb-true o n e) .best (eqb-false t n d)))
-      go true e true d = sym (choiceNone n (s .ours .none (eqb-true o n e)) (s .theirs (eqb-true o n e) .none (eqb-true t n d)))
+    pub scanEndOurs : (o ≡ n → ⊥) → taken o n ≡ searched own far table n
+    scanEndOurs some = rw (noneOf n (bad table) (s .good)) (sym (choiceOurs n o n (s .ours .best some) (rw (noneOf n (stops own far table) (s .on)))))
 
   -- one of ours with rank 0
   module _ {n i o p t q : ℕ} (s : Scanned own far table n i o p t q) (h : i < n) (ok : allowedAt table i ≡ true) (is : free (stateAt table i) (flagsAt table i) ≡ true) (c : controls own far i ≡ true) (unused : rankAt table i ≡ 0) where

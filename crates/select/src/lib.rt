@@ -4,12 +4,12 @@ use circuit::PointCode;
 use layout::Stored;
 ghost use mathlib.Core.Path.{_≡_};
 ghost use mathlib.Core.Bool.{not};
-ghost use Prim.Native.Nat.{_≤_};
+ghost use Prim.Native.Nat.{_<_, _≤_};
 ghost use lib.ListN.{length};
 ghost use Rattle.layout.specs.Layout.{recordsIn};
 ghost use Rattle.select.specs.First.{some};
 ghost use Rattle.select.specs.Selection.{refused, taken, free, selectIn};
-ghost use Rattle.select.specs.Search.{badFrom, before, better, stopped, concluded, searched};
+ghost use Rattle.select.specs.Search.{badFrom, stopped, concluded, searched, Scanned};
 
 // What selection answers: the refusal's number, 0 where there is none; the circuit; how many records were looked at.
 pub struct Selected {
@@ -46,20 +46,6 @@ fn free(at: Stored) -> bool
     circuit::both(at.state == 0, !rec.far)
 }
 
-// Whether a rank goes before another: of our own the lower one, of theirs the higher one.
-fn goes_before(own: bool, a: u64, b: u64) -> bool
-    ensures { λ r. ⌜ r ≡ before own a b ⌝ }
-{
-    if own { a < b } else { b < a }
-}
-
-// Whether a circuit takes the place of the best so far, whose rank is `best` unless there is none. Of equal ranks the earlier circuit stays.
-fn better(own: bool, none: bool, rank: u64, best: u64) -> bool
-    ensures { λ r. ⌜ r ≡ better own none rank best ⌝ }
-{
-    circuit::either(none, goes_before(own, rank, best))
-}
-
 // Whether all records from one on are allowed.
 fn allowed_from(table: &[u8], from: u32, records: u32) -> bool
     requires { ⌜ records ≤ recordsIn (length (now table)) ⌝ }
@@ -86,30 +72,24 @@ fn stop(table: &[u8], cic: u32, looked: u32, records: u32) -> Selected
     }
 }
 
-// The whole table was looked at: the best of ours, else the best of theirs. `records` stands for none.
-fn conclude(ours: u32, theirs: u32, records: u32) -> Selected
-    ensures { λ r. ⌜ r ≡ concluded ours theirs records ⌝ }
-{
-    if ours != records {
-        return taken(ours, records);
-    }
-    if theirs != records {
-        return taken(theirs, records);
-    }
-    refused(14)
-}
-
-// Judges each record and looks at it, and stops at one of our own with rank 0: none can have been released before it. Once one of our own is found,
-// theirs are passed over.
-fn search(own: PointCode, far: PointCode, table: &[u8], records: u32) -> Selected
+// The records from one on, where circuit `best` with its rank is the best of ours before them: theirs are passed over.
+fn ours_from(
+    own: PointCode,
+    far: PointCode,
+    table: &[u8],
+    from: u32,
+    best: u32,
+    rank: u64,
+    records: u32,
+) -> Selected
     requires { ⌜ records ≤ recordsIn (length (now table)) ⌝ }
+    requires { ⌜ (from ≤ records) × (best < records) ⌝ }
+    requires { ⌜ Scanned (own .0) (far .0) (now table) records from best rank records 0 ⌝ }
     ensures { λ r. ⌜ r ≡ searched (own .0) (far .0) (now (table .entry)) records ⌝ }
 {
-    let mut ours = records;
-    let mut ours_rank = 0;
-    let mut theirs = records;
-    let mut theirs_rank = 0;
-    for i in 0..records {
+    let mut chosen = best;
+    let mut lowest = rank;
+    for i in from..records {
         let at = layout::stored_at(table, Cic(i));
         if !layout::allowed(at.state, at.flags) {
             return refused(12);
@@ -118,24 +98,57 @@ fn search(own: PointCode, far: PointCode, table: &[u8], records: u32) -> Selecte
             continue;
         }
         if !circuit::controls(own, far, Cic(i)) {
-            if ours != records {
-                continue;
-            }
-            if better(false, theirs == records, at.rank, theirs_rank) {
-                theirs = i;
-                theirs_rank = at.rank;
-            }
             continue;
         }
         if at.rank == 0 {
             return stop(table, i, i + 1, records);
         }
-        if better(true, ours == records, at.rank, ours_rank) {
-            ours = i;
-            ours_rank = at.rank;
+        if at.rank < lowest {
+            chosen = i;
+            lowest = at.rank;
         }
     }
-    conclude(ours, theirs, records)
+    taken(chosen, records)
+}
+
+// The whole table was looked at, and none of ours qualifies: the best of theirs, for none of which `records` stands.
+fn conclude(theirs: u32, records: u32) -> Selected
+    ensures { λ r. ⌜ r ≡ concluded theirs records ⌝ }
+{
+    if theirs == records {
+        refused(14)
+    } else {
+        taken(theirs, records)
+    }
+}
+
+// Judges each record and looks at it, and stops at one of our own with rank 0: none can have been released before it.
+fn search(own: PointCode, far: PointCode, table: &[u8], records: u32) -> Selected
+    requires { ⌜ records ≤ recordsIn (length (now table)) ⌝ }
+    ensures { λ r. ⌜ r ≡ searched (own .0) (far .0) (now (table .entry)) records ⌝ }
+{
+    let mut theirs = records;
+    let mut highest = 0;
+    for i in 0..records {
+        let at = layout::stored_at(table, Cic(i));
+        if !layout::allowed(at.state, at.flags) {
+            return refused(12);
+        }
+        if !free(at) {
+            continue;
+        }
+        if circuit::controls(own, far, Cic(i)) {
+            if at.rank == 0 {
+                return stop(table, i, i + 1, records);
+            }
+            return ours_from(own, far, table, i + 1, i, at.rank, records);
+        }
+        if circuit::either(theirs == records, highest < at.rank) {
+            theirs = i;
+            highest = at.rank;
+        }
+    }
+    conclude(theirs, records)
 }
 
 // The circuit to seize in the group with these codes and this table. Each record is read once.

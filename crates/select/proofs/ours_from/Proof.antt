@@ -1,0 +1,140 @@
+-- `select::ours_from` meets its contract.
+-- Assumes nothing.
+use Prim.Native.Nat.{_-_, _<_, _≤_}
+use native.Mathlib.Omega.{arith}
+use mathlib.Core.Path.{_≡_, sym, _∙_}
+use mathlib.Core.Logic.{⊎-elim}
+use borrow.Author.Tests.{not-true, not-false}
+use borrow.Author.Needs.{needs}
+use Rattle.select.specs.Search.{judged, freeAt, rankIs, Scanned, scanBusy, scanOver, scanOurs, scanOursStay, scanBad, scanStop, scanEndOurs}
+use Rattle.select.proofs.ours_from.Statement.{statement}
+use Rattle.select.proofs.ours_from.Tie as tie
+
+abbrev Inv-loop : tie.InvT-loop
+Inv-loop own far table from best rank records chosen₀ lowest₀ i₀ chosen lowest i =
+    (i ≤ records) × (chosen < records) × Scanned (own .0) (far .0) table records i chosen lowest records 0
+
+abbrev μ-loop : tie.MeasureT-loop
+μ-loop own far table from best rank records chosen₀ lowest₀ i₀ chosen lowest i = records - i
+
+loop-holds : tie.Need-loop-holds Inv-loop μ-loop
+loop-holds c = let p = c .before .pre in (p .1 .0 .0, p .1 .0 .1, p .1 .1)
+
+stored-at-requires : tie.Need-stored-at-requires Inv-loop μ-loop
+stored-at-requires c κs = search needs
+
+allowed-requires : tie.Need-allowed-requires Inv-loop μ-loop
+allowed-requires c κs = search needs
+
+refused-requires : tie.Need-refused-requires Inv-loop μ-loop
+refused-requires c κs = search needs
+
+returns : tie.Need-returns Inv-loop μ-loop
+returns c =
+    let a = c .before .before in let r = a .before in let l = r .before in
+    let all = l .before .before .before .pre .0 in let h = l .loop-test .taken in let e = r .stored-at .ensures in let i = l .before .loop .inv in
+    c .refused .ensures ∙ scanBad _ _ _ _ _ h (judged _ _ _ all h e (a .allowed .ensures) ∙ not-true _ (c .before .if1 .taken))
+
+free-requires : tie.Need-free-requires Inv-loop μ-loop
+free-requires c κs = search needs
+
+add-i : tie.Need-add-i Inv-loop μ-loop
+add-i c = search needs
+
+loop-less : tie.Need-loop-less Inv-loop μ-loop
+loop-less c = search needs
+
+loop-again : tie.Need-loop-again Inv-loop μ-loop
+loop-again c =
+    let f = c .before in let a = f .before .before in let r = a .before in let l = r .before in
+    let all = l .before .before .before .pre .0 in let h = l .loop-test .taken in let e = r .stored-at .ensures in let i = l .before .loop .inv in
+    let ok = judged _ _ _ all h e (a .allowed .ensures) ∙ not-false _ (f .before .if1 .left) in
+    (search needs, i .1, scanBusy _ _ _ (i .2) h ok (freeAt _ _ _ all h e (f .free .ensures) ∙ not-true _ (c .if2 .taken)))
+
+controls-requires : tie.Need-controls-requires Inv-loop μ-loop
+controls-requires c κs = search needs
+
+add-i-2 : tie.Need-add-i-2 Inv-loop μ-loop
+add-i-2 c = search needs
+
+loop-less-2 : tie.Need-loop-less-2 Inv-loop μ-loop
+loop-less-2 c = search needs
+
+loop-again-2 : tie.Need-loop-again-2 Inv-loop μ-loop
+loop-again-2 c =
+    let k = c .before in let f = k .before .before in let a = f .before .before in let r = a .before in let l = r .before in
+    let all = l .before .before .before .pre .0 in let h = l .loop-test .taken in let e = r .stored-at .ensures in let i = l .before .loop .inv in
+    let ok = judged _ _ _ all h e (a .allowed .ensures) ∙ not-false _ (f .before .if1 .left) in
+    let is = freeAt _ _ _ all h e (f .free .ensures) ∙ not-false _ (k .before .if2 .left) in
+    (search needs, i .1, scanOver _ _ _ (i .2) h ok is _ (rankIs _ _ _ all h e) (sym (k .controls .ensures) ∙ not-true _ (c .if3 .taken)) (λ d. omega (arith, i .1, d)))
+
+add-stop : tie.Need-add-stop Inv-loop μ-loop
+add-stop c = search needs
+
+stop-requires : tie.Need-stop-requires Inv-loop μ-loop
+stop-requires c κs = search needs
+
+returns-2 : tie.Need-returns-2 Inv-loop μ-loop
+returns-2 c =
+    let z = c .before in let k = z .before .before .before in let f = k .before .before in let a = f .before .before in let r = a .before in let l = r .before in
+    let all = l .before .before .before .pre .0 in let h = l .loop-test .taken in let e = r .stored-at .ensures in let i = l .before .loop .inv in
+    let ok = judged _ _ _ all h e (a .allowed .ensures) ∙ not-false _ (f .before .if1 .left) in
+    let is = freeAt _ _ _ all h e (f .free .ensures) ∙ not-false _ (k .before .if2 .left) in
+    c .stop .ensures
+    ∙ scanStop _ _ _ (i .2) h ok is (sym (k .controls .ensures) ∙ not-false _ (z .before .before .if3 .left)) (sym (rankIs _ _ _ all h e) ∙ z .if4 .taken)
+
+add-i-3 : tie.Need-add-i-3 Inv-loop μ-loop
+add-i-3 c = search needs
+
+loop-less-3 : tie.Need-loop-less-3 Inv-loop μ-loop
+loop-less-3 c = search needs
+
+loop-again-3 : tie.Need-loop-again-3 Inv-loop μ-loop
+loop-again-3 c =
+    let z = c .before .before in let k = z .before .before .before in let f = k .before .before in let a = f .before .before in let r = a .before in let l = r .before in
+    let all = l .before .before .before .pre .0 in let h = l .loop-test .taken in let e = r .stored-at .ensures in let i = l .before .loop .inv in
+    let ok = judged _ _ _ all h e (a .allowed .ensures) ∙ not-false _ (f .before .if1 .left) in
+    let is = freeAt _ _ _ all h e (f .free .ensures) ∙ not-false _ (k .before .if2 .left) in
+    let con = sym (k .controls .ensures) ∙ not-false _ (z .before .before .if3 .left) in (
+      search needs,
+      ⊎-elim (λ w. rw (w .1) h) (λ w. rw (w .1) (i .1)) (c .if5 .came),
+      ⊎-elim (λ w. rw (w .1, w .2) (scanOurs _ _ _ (i .2) h ok is _ (rankIs _ _ _ all h e) con (z .if4 .left) (λ d. omega (arith, i .1, d)) (w .0 .taken)))
+          (λ w. rw (w .1, w .2) (scanOursStay _ _ _ (i .2) h ok is _ (rankIs _ _ _ all h e) con (z .if4 .left) (λ d. omega (arith, i .1, d)) (w .0 .left))) (c .if5 .came),
+    )
+
+taken-requires : tie.Need-taken-requires Inv-loop μ-loop
+taken-requires c κs = search needs
+
+returns-3 : tie.Need-returns-3 Inv-loop μ-loop
+returns-3 c =
+    let l = c .before .before in
+    let all : l .loop .i ≡ l .before .before .args .records = omega (arith, c .before .loop-test .left, l .loop .inv .0) in
+    c .taken .ensures ∙ scanEndOurs _ _ _ (rw all at (l .loop .inv .2)) (λ d. omega (arith, l .loop .inv .1, d))
+
+pub ours-from-spec : {M : Type 1} → statement M
+ours-from-spec =
+    tie.close
+    (tie.spec
+    Inv-loop
+    μ-loop
+    loop-holds
+    stored-at-requires
+    allowed-requires
+    refused-requires
+    returns
+    free-requires
+    add-i
+    loop-less
+    loop-again
+    controls-requires
+    add-i-2
+    loop-less-2
+    loop-again-2
+    add-stop
+    stop-requires
+    returns-2
+    add-i-3
+    loop-less-3
+    loop-again-3
+    taken-requires
+    returns-3)
