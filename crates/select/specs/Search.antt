@@ -295,16 +295,25 @@ module _ (own far : ℕ) (table : List ℕ) where
           on = on (λ x. rw e at x);
         })
 
+    -- one of theirs, where one of ours is found
+    pub scanOver : controls own far i ≡ false → (o ≡ n → ⊥) → Scanned own far table n (i + 1) o p t q
+    scanOver e some =
+        rw (next i)
+        (record {
+          ours = heldPast true table (ours own far table) n (s .ours) not;
+          theirs = λ d. absurd (some d);
+          good = good;
+          on = on (λ x. not (left (ours own far table i) _ x));
+        })
+      where
+        not : T (ours own far table i) → ⊥
+        not x = subst T e (right (free (stateAt table i) (flagsAt table i)) (controls own far i) x)
+
     module _ (is : free (stateAt table i) (flagsAt table i) ≡ true) (rank : ℕ) (r : rank ≡ rankAt table i) where
       module _ (e : controls own far i ≡ false) where
         notOurs : Held true table (ours own far table) n (suc i) o p
         notOurs = heldPast true table (ours own far table) n (s .ours) (λ x. rw (is, e) at x)
 
-        -- where one of ours is found
-        pub scanOver : (o ≡ n → ⊥) → Scanned own far table n (i + 1) o p t q
-        scanOver some = rw (next i) (record { ours = notOurs; theirs = λ d. absurd (some d); good = good; on = on (λ x. rw (is, e) at x) })
-
-        -- and where none is
         module _ (none : o ≡ n) where
           pub scanTheirs : (eqb t n || ltb q rank) ≡ true → Scanned own far table n (i + 1) o p i rank
           scanTheirs b =

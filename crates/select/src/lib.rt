@@ -94,10 +94,10 @@ fn ours_from(
         if !layout::allowed(at.state, at.flags) {
             return refused(12);
         }
-        if !free(at) {
+        if !circuit::controls(own, far, Cic(i)) {
             continue;
         }
-        if !circuit::controls(own, far, Cic(i)) {
+        if !free(at) {
             continue;
         }
         if at.rank == 0 {

@@ -1,4 +1,4 @@
--- `select::ours_from` meets its contract.
+-- `select::ours_from` meets its contract: the best of ours so far is held, and no bad record was met.
 -- Assumes nothing.
 use Prim.Native.Nat.{_-_, _<_, _≤_}
 use native.Mathlib.Omega.{arith}
@@ -32,11 +32,11 @@ refused-requires c κs = search needs
 returns : tie.Need-returns Inv-loop μ-loop
 returns c =
     let a = c .before .before in let r = a .before in let l = r .before in
-    let all = l .before .before .before .pre .0 in let h = l .loop-test .taken in let e = r .stored-at .ensures in let i = l .before .loop .inv in
-    c .refused .ensures ∙ scanBad _ _ _ _ _ h (judged _ _ _ all h e (a .allowed .ensures) ∙ not-true _ (c .before .if1 .taken))
+    let all = l .before .before .before .pre .0 in let h = l .loop-test .taken in
+    c .refused .ensures ∙ scanBad _ _ _ _ _ h (judged _ _ _ all h (r .stored-at .ensures) (a .allowed .ensures) ∙ not-true _ (c .before .if1 .taken))
 
-free-requires : tie.Need-free-requires Inv-loop μ-loop
-free-requires c κs = search needs
+controls-requires : tie.Need-controls-requires Inv-loop μ-loop
+controls-requires c κs = search needs
 
 add-i : tie.Need-add-i Inv-loop μ-loop
 add-i c = search needs
@@ -44,15 +44,19 @@ add-i c = search needs
 loop-less : tie.Need-loop-less Inv-loop μ-loop
 loop-less c = search needs
 
+-- one of theirs
 loop-again : tie.Need-loop-again Inv-loop μ-loop
 loop-again c =
-    let f = c .before in let a = f .before .before in let r = a .before in let l = r .before in
-    let all = l .before .before .before .pre .0 in let h = l .loop-test .taken in let e = r .stored-at .ensures in let i = l .before .loop .inv in
-    let ok = judged _ _ _ all h e (a .allowed .ensures) ∙ not-false _ (f .before .if1 .left) in
-    (search needs, i .1, scanBusy _ _ _ (i .2) h ok (freeAt _ _ _ all h e (f .free .ensures) ∙ not-true _ (c .if2 .taken)))
+    let k = c .before in let a = k .before .before in let r = a .before in let l = r .before in
+    let all = l .before .before .before .pre .0 in let h = l .loop-test .taken in let i = l .before .loop .inv in (
+      search needs,
+      i .1,
+      scanOver _ _ _ (i .2) h (judged _ _ _ all h (r .stored-at .ensures) (a .allowed .ensures) ∙ not-false _ (k .before .if1 .left))
+          (sym (k .controls .ensures) ∙ not-true _ (c .if2 .taken)) (λ d. omega (arith, i .1, d)),
+    )
 
-controls-requires : tie.Need-controls-requires Inv-loop μ-loop
-controls-requires c κs = search needs
+free-requires : tie.Need-free-requires Inv-loop μ-loop
+free-requires c κs = search needs
 
 add-i-2 : tie.Need-add-i-2 Inv-loop μ-loop
 add-i-2 c = search needs
@@ -60,13 +64,15 @@ add-i-2 c = search needs
 loop-less-2 : tie.Need-loop-less-2 Inv-loop μ-loop
 loop-less-2 c = search needs
 
+-- one of ours that does not qualify
 loop-again-2 : tie.Need-loop-again-2 Inv-loop μ-loop
 loop-again-2 c =
-    let k = c .before in let f = k .before .before in let a = f .before .before in let r = a .before in let l = r .before in
-    let all = l .before .before .before .pre .0 in let h = l .loop-test .taken in let e = r .stored-at .ensures in let i = l .before .loop .inv in
-    let ok = judged _ _ _ all h e (a .allowed .ensures) ∙ not-false _ (f .before .if1 .left) in
-    let is = freeAt _ _ _ all h e (f .free .ensures) ∙ not-false _ (k .before .if2 .left) in
-    (search needs, i .1, scanOver _ _ _ (i .2) h ok is _ (rankIs _ _ _ all h e) (sym (k .controls .ensures) ∙ not-true _ (c .if3 .taken)) (λ d. omega (arith, i .1, d)))
+    let f = c .before in let k = f .before .before in let a = k .before .before in let r = a .before in let l = r .before in
+    let all = l .before .before .before .pre .0 in let h = l .loop-test .taken in let e = r .stored-at .ensures in let i = l .before .loop .inv in (
+      search needs,
+      i .1,
+      scanBusy _ _ _ (i .2) h (judged _ _ _ all h e (a .allowed .ensures) ∙ not-false _ (k .before .if1 .left)) (freeAt _ _ _ all h e (f .free .ensures) ∙ not-true _ (c .if3 .taken)),
+    )
 
 add-stop : tie.Need-add-stop Inv-loop μ-loop
 add-stop c = search needs
@@ -74,14 +80,15 @@ add-stop c = search needs
 stop-requires : tie.Need-stop-requires Inv-loop μ-loop
 stop-requires c κs = search needs
 
+-- one with rank 0
 returns-2 : tie.Need-returns-2 Inv-loop μ-loop
 returns-2 c =
-    let z = c .before in let k = z .before .before .before in let f = k .before .before in let a = f .before .before in let r = a .before in let l = r .before in
-    let all = l .before .before .before .pre .0 in let h = l .loop-test .taken in let e = r .stored-at .ensures in let i = l .before .loop .inv in
-    let ok = judged _ _ _ all h e (a .allowed .ensures) ∙ not-false _ (f .before .if1 .left) in
-    let is = freeAt _ _ _ all h e (f .free .ensures) ∙ not-false _ (k .before .if2 .left) in
+    let z = c .before in let f = z .before .before .before in let k = f .before .before in let a = k .before .before in let r = a .before in let l = r .before in
+    let all = l .before .before .before .pre .0 in let h = l .loop-test .taken in let e = r .stored-at .ensures in
     c .stop .ensures
-    ∙ scanStop _ _ _ (i .2) h ok is (sym (k .controls .ensures) ∙ not-false _ (z .before .before .if3 .left)) (sym (rankIs _ _ _ all h e) ∙ z .if4 .taken)
+    ∙ scanStop _ _ _ (l .before .loop .inv .2) h (judged _ _ _ all h e (a .allowed .ensures) ∙ not-false _ (k .before .if1 .left))
+    (freeAt _ _ _ all h e (f .free .ensures) ∙ not-false _ (z .before .before .if3 .left))
+    (sym (k .controls .ensures) ∙ not-false _ (f .before .if2 .left)) (sym (rankIs _ _ _ all h e) ∙ z .if4 .taken)
 
 add-i-3 : tie.Need-add-i-3 Inv-loop μ-loop
 add-i-3 c = search needs
@@ -89,13 +96,14 @@ add-i-3 c = search needs
 loop-less-3 : tie.Need-loop-less-3 Inv-loop μ-loop
 loop-less-3 c = search needs
 
+-- one that is the best so far, or is not
 loop-again-3 : tie.Need-loop-again-3 Inv-loop μ-loop
 loop-again-3 c =
-    let z = c .before .before in let k = z .before .before .before in let f = k .before .before in let a = f .before .before in let r = a .before in let l = r .before in
+    let z = c .before .before in let f = z .before .before .before in let k = f .before .before in let a = k .before .before in let r = a .before in let l = r .before in
     let all = l .before .before .before .pre .0 in let h = l .loop-test .taken in let e = r .stored-at .ensures in let i = l .before .loop .inv in
-    let ok = judged _ _ _ all h e (a .allowed .ensures) ∙ not-false _ (f .before .if1 .left) in
-    let is = freeAt _ _ _ all h e (f .free .ensures) ∙ not-false _ (k .before .if2 .left) in
-    let con = sym (k .controls .ensures) ∙ not-false _ (z .before .before .if3 .left) in (
+    let ok = judged _ _ _ all h e (a .allowed .ensures) ∙ not-false _ (k .before .if1 .left) in
+    let is = freeAt _ _ _ all h e (f .free .ensures) ∙ not-false _ (z .before .before .if3 .left) in
+    let con = sym (k .controls .ensures) ∙ not-false _ (f .before .if2 .left) in (
       search needs,
       ⊎-elim (λ w. rw (w .1) h) (λ w. rw (w .1) (i .1)) (c .if5 .came),
       ⊎-elim (λ w. rw (w .1, w .2) (scanOurs _ _ _ (i .2) h ok is _ (rankIs _ _ _ all h e) con (z .if4 .left) (λ d. omega (arith, i .1, d)) (w .0 .taken)))
@@ -122,11 +130,11 @@ ours-from-spec =
     allowed-requires
     refused-requires
     returns
-    free-requires
+    controls-requires
     add-i
     loop-less
     loop-again
-    controls-requires
+    free-requires
     add-i-2
     loop-less-2
     loop-again-2
