@@ -31,8 +31,14 @@ atMost4096 own far records e = go (eqb records 0) (none (badCode own) (badCode f
     go false d = ltb-false 4096 records d
 
 -- the exchange with the higher point code is controlling for even circuits, the other for odd ones (Q.724, 2.5)
+abbrev pub lowest : ℕ → ℕ → ℕ
+lowest own far = cond (ltb far own) 0 1
+
+abbrev pub byParity : (first : ℕ) → ℕ → Bool
+byParity first cic = eqb (cic % 2) first
+
 abbrev pub controls : ℕ → ℕ → ℕ → Bool
-controls own far cic = eqb (cic % 2) (cond (ltb far own) 0 1)
+controls own far cic = byParity (lowest own far) cic
 
 parity : (m : ℕ) → m < 2 → eqb m 1 ≡ not (eqb m 0)
 parity zero h = refl

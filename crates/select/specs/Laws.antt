@@ -54,40 +54,43 @@ module _ (own far : ℕ) (table : List ℕ) where
   abbrev n : ℕ
   n = recordsIn (length table)
 
+  abbrev mine : ℕ → Bool
+  mine = controls own far
+
   -- whatever holds of each refusal and of the choice of one of ours or of theirs holds of a selection
   pub byCases : (P : Selected → Type 0)
       → (badGroup own far n ≡ true → P (refused 1))
       → (badGroup own far n ≡ false → some n (bad table) ≡ true → P (refused 12))
-      → (badGroup own far n ≡ false → some n (bad table) ≡ false → some n (ours own far table) ≡ true → P (taken (best n (ours own far table) (earlier table)) (looked own far table n)))
-      → (badGroup own far n ≡ false → some n (bad table) ≡ false → some n (ours own far table) ≡ false → some n (theirs own far table) ≡ true → P (taken (best n (theirs own far table) (later table)) n))
-      → (badGroup own far n ≡ false → some n (bad table) ≡ false → some n (ours own far table) ≡ false → some n (theirs own far table) ≡ false → P (refused 14))
+      → (badGroup own far n ≡ false → some n (bad table) ≡ false → some n (ours mine table) ≡ true → P (taken (best n (ours mine table) (earlier table)) (looked mine table n)))
+      → (badGroup own far n ≡ false → some n (bad table) ≡ false → some n (ours mine table) ≡ false → some n (theirs mine table) ≡ true → P (taken (best n (theirs mine table) (later table)) n))
+      → (badGroup own far n ≡ false → some n (bad table) ≡ false → some n (ours mine table) ≡ false → some n (theirs mine table) ≡ false → P (refused 14))
       → P (selectIn own far table)
   unfolding selectIn choice
   byCases P p₁ p₁₂ ofOurs ofTheirs p₁₄ = go₁ (badGroup own far n) refl
     where
-      go₁₄ : badGroup own far n ≡ false → some n (bad table) ≡ false → some n (ours own far table) ≡ false → (b : Bool) → some n (theirs own far table) ≡ b → P (cond b (taken (best n (theirs own far table) (later table)) n) (refused 14))
+      go₁₄ : badGroup own far n ≡ false → some n (bad table) ≡ false → some n (ours mine table) ≡ false → (b : Bool) → some n (theirs mine table) ≡ b → P (cond b (taken (best n (theirs mine table) (later table)) n) (refused 14))
       go₁₄ g a o true e = ofTheirs g a o e
       go₁₄ g a o false e = p₁₄ g a o e
 
-      goₒ : badGroup own far n ≡ false → some n (bad table) ≡ false → (b : Bool) → some n (ours own far table) ≡ b → P (cond b (taken (best n (ours own far table) (earlier table)) (looked own far table n)) (cond (some n (theirs own far table)) (taken (best n (theirs own far table) (later table)) n) (refused 14)))
+      goₒ : badGroup own far n ≡ false → some n (bad table) ≡ false → (b : Bool) → some n (ours mine table) ≡ b → P (cond b (taken (best n (ours mine table) (earlier table)) (looked mine table n)) (cond (some n (theirs mine table)) (taken (best n (theirs mine table) (later table)) n) (refused 14)))
       goₒ g a true e = ofOurs g a e
-      goₒ g a false e = go₁₄ g a e (some n (theirs own far table)) refl
+      goₒ g a false e = go₁₄ g a e (some n (theirs mine table)) refl
 
-      go₁₂ : badGroup own far n ≡ false → (b : Bool) → some n (bad table) ≡ b → P (cond b (refused 12) (choice own far table n))
+      go₁₂ : badGroup own far n ≡ false → (b : Bool) → some n (bad table) ≡ b → P (cond b (refused 12) (choice mine table n))
       go₁₂ g true e = p₁₂ g e
-      go₁₂ g false e = goₒ g e (some n (ours own far table)) refl
+      go₁₂ g false e = goₒ g e (some n (ours mine table)) refl
 
-      go₁ : (b : Bool) → badGroup own far n ≡ b → P (cond b (refused 1) (cond (some n (bad table)) (refused 12) (choice own far table n)))
+      go₁ : (b : Bool) → badGroup own far n ≡ b → P (cond b (refused 1) (cond (some n (bad table)) (refused 12) (choice mine table n)))
       go₁ true e = p₁ e
       go₁ false e = go₁₂ e (some n (bad table)) refl
 
   abbrev s : Selected
   s = selectIn own far table
 
-  best₁ : some n (ours own far table) ≡ true → Best (ours own far table) (earlier table) n (best n (ours own far table) (earlier table))
+  best₁ : some n (ours mine table) ≡ true → Best (ours mine table) (earlier table) n (best n (ours mine table) (earlier table))
   best₁ e = isTheBest (order true table) n e
 
-  best₂ : some n (theirs own far table) ≡ true → Best (theirs own far table) (later table) n (best n (theirs own far table) (later table))
+  best₂ : some n (theirs mine table) ≡ true → Best (theirs mine table) (later table) n (best n (theirs mine table) (later table))
   best₂ e = isTheBest (order false table) n e
 
   -- a refusal reports circuit 0 and count 0
@@ -101,17 +104,17 @@ module _ (own far : ℕ) (table : List ℕ) where
   chosenQualifies =
       byCases (λ s. s .refusal ≡ 0 → (s .cic .0 < n) × T (qualifies table (s .cic .0)))
       (λ g r. absurd (omega arith)) (λ g a r. absurd (omega arith))
-      (λ g a o r. (best₁ o .below, left (qualifies table (best n (ours own far table) (earlier table))) _ (best₁ o .is)))
-      (λ g a o t r. (best₂ t .below, left (qualifies table (best n (theirs own far table) (later table))) _ (best₂ t .is)))
+      (λ g a o r. (best₁ o .below, left (qualifies table (best n (ours mine table) (earlier table))) _ (best₁ o .is)))
+      (λ g a o t r. (best₂ t .below, left (qualifies table (best n (theirs mine table) (later table))) _ (best₂ t .is)))
       (λ g a o t r. absurd (omega arith))
 
   -- where one of ours qualifies, one of ours is chosen, and none that qualifies was released before it
-  pub ofOurs : s .refusal ≡ 0 → (j : ℕ) → j < n → T (ours own far table j) → T (controls own far (s .cic .0)) × Earlier table (s .cic .0) j
+  pub ofOurs : s .refusal ≡ 0 → (j : ℕ) → j < n → T (ours mine table j) → T (controls own far (s .cic .0)) × Earlier table (s .cic .0) j
   ofOurs =
-      byCases (λ s. s .refusal ≡ 0 → (j : ℕ) → j < n → T (ours own far table j) → T (controls own far (s .cic .0)) × Earlier table (s .cic .0) j)
+      byCases (λ s. s .refusal ≡ 0 → (j : ℕ) → j < n → T (ours mine table j) → T (controls own far (s .cic .0)) × Earlier table (s .cic .0) j)
       (λ g r. absurd (omega arith)) (λ g a r. absurd (omega arith))
-      (λ g a o r j h t. (right (qualifies table (best n (ours own far table) (earlier table))) _ (best₁ o .is), isEarlier table _ j (best₁ o .goesFirst j h t)))
-      (λ g a o u r j h t. absurd (noneAt n (ours own far table) o j h t))
+      (λ g a o r j h t. (right (qualifies table (best n (ours mine table) (earlier table))) _ (best₁ o .is), isEarlier table _ j (best₁ o .goesFirst j h t)))
+      (λ g a o u r j h t. absurd (noneAt n (ours mine table) o j h t))
       (λ g a o u r. absurd (omega arith))
 
   -- one of theirs is chosen only if none of ours qualifies, and none that qualifies was released after it
@@ -119,9 +122,9 @@ module _ (own far : ℕ) (table : List ℕ) where
   ofTheirs =
       byCases (λ s. s .refusal ≡ 0 → (T (controls own far (s .cic .0)) → ⊥) → (j : ℕ) → j < n → T (qualifies table j) → (T (controls own far j) → ⊥) × Later table (s .cic .0) j)
       (λ g r. absurd (omega arith)) (λ g a r. absurd (omega arith))
-      (λ g a o r other. absurd (other (right (qualifies table (best n (ours own far table) (earlier table))) _ (best₁ o .is))))
+      (λ g a o r other. absurd (other (right (qualifies table (best n (ours mine table) (earlier table))) _ (best₁ o .is))))
       (λ g a o u r other j h t.
-      let not : T (controls own far j) → ⊥ = λ c. noneAt n (ours own far table) o j h (both (qualifies table j) _ t c) in
+      let not : T (controls own far j) → ⊥ = λ c. noneAt n (ours mine table) o j h (both (qualifies table j) _ t c) in
       (not, isLater table _ j (best₂ u .goesFirst j h (both (qualifies table j) _ t (not-T (controls own far j) not)))))
       (λ g a o u r. absurd (omega arith))
 
@@ -130,29 +133,29 @@ module _ (own far : ℕ) (table : List ℕ) where
   refusals =
       byCases (λ s. s .refusal ≡ cond (badGroup own far n) 1 (cond (some n (bad table)) 12 (cond (some n (qualifies table)) 0 14)))
       (λ g. rw g) (λ g a. rw (g, a))
-      (λ g a o. rw (g, a, someAt n (qualifies table) _ (best₁ o .below) (left (qualifies table (best n (ours own far table) (earlier table))) _ (best₁ o .is))))
-      (λ g a o t. rw (g, a, someAt n (qualifies table) _ (best₂ t .below) (left (qualifies table (best n (theirs own far table) (later table))) _ (best₂ t .is))))
+      (λ g a o. rw (g, a, someAt n (qualifies table) _ (best₁ o .below) (left (qualifies table (best n (ours mine table) (earlier table))) _ (best₁ o .is))))
+      (λ g a o t. rw (g, a, someAt n (qualifies table) _ (best₂ t .below) (left (qualifies table (best n (theirs mine table) (later table))) _ (best₂ t .is))))
       (λ g a o t. rw (g, a, noneOf n (qualifies table) (neither o t)))
     where
-      neither : some n (ours own far table) ≡ false → some n (theirs own far table) ≡ false → (j : ℕ) → j < n → T (qualifies table j) → ⊥
+      neither : some n (ours mine table) ≡ false → some n (theirs mine table) ≡ false → (j : ℕ) → j < n → T (qualifies table j) → ⊥
       neither o t j h q =
-          noneAt n (theirs own far table) t j h (both (qualifies table j) _ q (not-T (controls own far j) (λ c. noneAt n (ours own far table) o j h (both (qualifies table j) _ q c))))
+          noneAt n (theirs mine table) t j h (both (qualifies table j) _ q (not-T (controls own far j) (λ c. noneAt n (ours mine table) o j h (both (qualifies table j) _ q c))))
 
   -- the count: the whole table, unless one of ours that qualifies has rank 0: then the first of these is chosen, and the count is its number plus one
-  pub counts : s .refusal ≡ 0 → s .looked ≡ cond (some n (stops own far table)) (s .cic .0 + 1) n
+  pub counts : s .refusal ≡ 0 → s .looked ≡ cond (some n (stops mine table)) (s .cic .0 + 1) n
   counts =
-      byCases (λ s. s .refusal ≡ 0 → s .looked ≡ cond (some n (stops own far table)) (s .cic .0 + 1) n)
-      (λ g r. absurd (omega arith)) (λ g a r. absurd (omega arith)) (λ g a o r. go (some n (stops own far table)) refl)
-      (λ g a o t r. rw (noneOf n (stops own far table) (λ j h q. noneAt n (ours own far table) o j h (left (ours own far table j) _ q))))
+      byCases (λ s. s .refusal ≡ 0 → s .looked ≡ cond (some n (stops mine table)) (s .cic .0 + 1) n)
+      (λ g r. absurd (omega arith)) (λ g a r. absurd (omega arith)) (λ g a o r. go (some n (stops mine table)) refl)
+      (λ g a o t r. rw (noneOf n (stops mine table) (λ j h q. noneAt n (ours mine table) o j h (left (ours mine table j) _ q))))
       (λ g a o t r. absurd (omega arith))
     where
       k : ℕ
-      k = first n (stops own far table)
+      k = first n (stops mine table)
 
-      chosen : some n (stops own far table) ≡ true → best n (ours own far table) (earlier table) ≡ k
-      chosen e = theBest (order true table) (firstUnused own far table n k (ltb-true k n e) (firstHolds n (stops own far table) (ltb-true k n e)) (λ j h t. firstNot n (stops own far table) j h t))
+      chosen : some n (stops mine table) ≡ true → best n (ours mine table) (earlier table) ≡ k
+      chosen e = theBest (order true table) (firstUnused mine table n k (ltb-true k n e) (firstHolds n (stops mine table) (ltb-true k n e)) (λ j h t. firstNot n (stops mine table) j h t))
 
-      go : (b : Bool) → some n (stops own far table) ≡ b → cond b (k + 1) n ≡ cond b (best n (ours own far table) (earlier table) + 1) n
+      go : (b : Bool) → some n (stops mine table) ≡ b → cond b (k + 1) n ≡ cond b (best n (ours mine table) (earlier table) + 1) n
       go true e = rw (chosen e)
       go false e = refl
 
@@ -161,12 +164,12 @@ module _ (own far : ℕ) (table : List ℕ) where
   small =
       byCases (λ s. (s .cic .0 < 4096) × (s .looked ≤ 4096))
       (λ g. (omega arith, omega arith)) (λ g a. (omega arith, omega arith))
-      (λ g a o. (omega (arith, best₁ o .below, atMost4096 own far n g), omega (arith, whole (some n (stops own far table)) refl, atMost4096 own far n g)))
+      (λ g a o. (omega (arith, best₁ o .below, atMost4096 own far n g), omega (arith, whole (some n (stops mine table)) refl, atMost4096 own far n g)))
       (λ g a o t. (omega (arith, best₂ t .below, atMost4096 own far n g), omega (arith, atMost4096 own far n g)))
       (λ g a o t. (omega arith, omega arith))
     where
-      whole : (b : Bool) → some n (stops own far table) ≡ b → cond b (first n (stops own far table) + 1) n ≤ n
-      whole true e = omega (arith, ltb-true (first n (stops own far table)) n e)
+      whole : (b : Bool) → some n (stops mine table) ≡ b → cond b (first n (stops mine table) + 1) n ≤ n
+      whole true e = omega (arith, ltb-true (first n (stops mine table)) n e)
       whole false e = omega arith
 
   -- seizing the chosen circuit at once is accepted
@@ -189,15 +192,15 @@ module _ (own far : ℕ) (table : List ℕ) where
           rw (w .0, lt-leb n i h, le-ltb 15 (flagsAt table i) low, v, isTrue (qualifies table i) q)
 
 -- two ends that choose at once, whatever their tables: while each has a circuit of its own that qualifies, they do not choose the same one
-pub neverMeet : (own far : ℕ) (mine theirs : List ℕ) → (own ≡ far → ⊥) → selectIn own far mine .refusal ≡ 0 → selectIn far own theirs .refusal ≡ 0
-    → (i : ℕ) → i < recordsIn (length mine) → T (ours own far mine i) → (j : ℕ) → j < recordsIn (length theirs) → T (ours far own theirs j)
-    → selectIn own far mine .cic .0 ≡ selectIn far own theirs .cic .0 → ⊥
-neverMeet own far mine theirs different r q i h s j l t meet =
-    onlyOne (controls own far c) (ofOurs own far mine r i h s .0)
-    (rw (← oneControls own far c different) (rw meet (ofOurs far own theirs q j l t .0)))
+pub neverMeet : (own far : ℕ) (here there : List ℕ) → (own ≡ far → ⊥) → selectIn own far here .refusal ≡ 0 → selectIn far own there .refusal ≡ 0
+    → (i : ℕ) → i < recordsIn (length here) → T (ours (controls own far) here i) → (j : ℕ) → j < recordsIn (length there) → T (ours (controls far own) there j)
+    → selectIn own far here .cic .0 ≡ selectIn far own there .cic .0 → ⊥
+neverMeet own far here there different r q i h s j l t meet =
+    onlyOne (controls own far c) (ofOurs own far here r i h s .0)
+    (rw (← oneControls own far c different) (rw meet (ofOurs far own there q j l t .0)))
   where
     c : ℕ
-    c = selectIn own far mine .cic .0
+    c = selectIn own far here .cic .0
 
     onlyOne : (b : Bool) → T b → T (not b) → ⊥
     onlyOne true a d = d

@@ -36,8 +36,8 @@ abbrev pub concluded : (theirs n : ℕ) → Selected
 concluded theirs n = cond (eqb theirs n) (refused 14) (taken theirs n)
 
 -- the whole search in n records
-abbrev pub searched : (own far : ℕ) → List ℕ → (n : ℕ) → Selected
-searched own far table n = cond (some n (bad table)) (refused 12) (choice own far table n)
+abbrev pub searched : (mine : ℕ → Bool) → List ℕ → (n : ℕ) → Selected
+searched mine table n = cond (some n (bad table)) (refused 12) (choice mine table n)
 
 -- the group is refused, or searched
 module _ (own far : ℕ) (table : List ℕ) where
@@ -45,7 +45,7 @@ module _ (own far : ℕ) (table : List ℕ) where
   unfolding selectIn
   noGroup bad = rw bad
 
-  pub inGroup : badGroup own far (recordsIn (length table)) ≡ false → searched own far table (recordsIn (length table)) ≡ selectIn own far table
+  pub inGroup : badGroup own far (recordsIn (length table)) ≡ false → searched (controls own far) table (recordsIn (length table)) ≡ selectIn own far table
   unfolding selectIn
   inGroup good = rw good
 
@@ -191,21 +191,21 @@ pub order : (own : Bool) (table : List ℕ) → Order (goes own table)
 order own table = ordered (strict own) (rankAt table)
 
 -- of ours, the first that is unused goes before all others
-module _ (own far : ℕ) (table : List ℕ) (n i : ℕ) (h : i < n) (here : T (stops own far table i)) (before : (j : ℕ) → j < i → T (stops own far table j) → ⊥) where
+module _ (mine : ℕ → Bool) (table : List ℕ) (n i : ℕ) (h : i < n) (here : T (stops mine table i)) (before : (j : ℕ) → j < i → T (stops mine table j) → ⊥) where
   unused : rankAt table i ≡ 0
-  unused = eqb-true _ _ (isTrue _ (right (ours own far table i) _ here))
+  unused = eqb-true _ _ (isTrue _ (right (ours mine table i) _ here))
 
-  pub firstUnused : Best (ours own far table) (earlier table) n i
-  firstUnused = record { below = h; is = left (ours own far table i) _ here; goesFirst = λ j l t. go j t (eqb (rankAt table j) 0) refl }
+  pub firstUnused : Best (ours mine table) (earlier table) n i
+  firstUnused = record { below = h; is = left (ours mine table i) _ here; goesFirst = λ j l t. go j t (eqb (rankAt table j) 0) refl }
     where
       to : (j : ℕ) → Ahead ltb (rankAt table i) (rankAt table j) i j → T (earlier table i j)
       to j a = aheadIs ltb (rankAt table i) (rankAt table j) i j a
 
-      tied : (j : ℕ) → T (ours own far table j) → rankAt table j ≡ 0 → (b : Bool) → leb i j ≡ b → T (earlier table i j)
+      tied : (j : ℕ) → T (ours mine table j) → rankAt table j ≡ 0 → (b : Bool) → leb i j ≡ b → T (earlier table i j)
       tied j t e true d = to j (byNumber (unused ∙ sym e) (leb-true i j d))
-      tied j t e false d = absurd (before j (leb-false i j d) (both (ours own far table j) _ t (rw e tt)))
+      tied j t e false d = absurd (before j (leb-false i j d) (both (ours mine table j) _ t (rw e tt)))
 
-      go : (j : ℕ) → T (ours own far table j) → (b : Bool) → eqb (rankAt table j) 0 ≡ b → T (earlier table i j)
+      go : (j : ℕ) → T (ours mine table j) → (b : Bool) → eqb (rankAt table j) 0 ≡ b → T (earlier table i j)
       go j t true e = tied j t (eqb-true _ _ e) (leb i j) refl
       go j t false e = let q : rankAt table j ≡ 0 → ⊥ = eqb-false _ _ e in to j (byRank (isLower (rankAt table i) (rankAt table j) (omega (arith, unused))))
 
@@ -255,11 +255,11 @@ module _ (own : Bool) (table : List ℕ) (among : ℕ → Bool) (n : ℕ) where
               }
 
 -- after i of n records: the best of ours, where there is none the best of theirs, no bad record yet, and none at which the search stops
-pub record Scanned (own far : ℕ) (table : List ℕ) (n i : ℕ) (o p t q : ℕ) : Type 0 where
-  pub ours : Held true table (ours own far table) n i o p
-  pub theirs : o ≡ n → Held false table (theirs own far table) n i t q
+pub record Scanned (mine : ℕ → Bool) (table : List ℕ) (n i : ℕ) (o p t q : ℕ) : Type 0 where
+  pub ours : Held true table (ours mine table) n i o p
+  pub theirs : o ≡ n → Held false table (theirs mine table) n i t q
   pub good : (j : ℕ) → j < i → T (bad table j) → ⊥
-  pub on : (j : ℕ) → j < i → T (stops own far table j) → ⊥
+  pub on : (j : ℕ) → j < i → T (stops mine table j) → ⊥
 
 isFalse : (b : Bool) → (T b → ⊥) → b ≡ false
 isFalse true n = absurd (n tt)
@@ -268,122 +268,122 @@ isFalse false n = refl
 next : (n : ℕ) → n + 1 ≡ suc n
 next n = omega arith
 
-module _ (own far : ℕ) (table : List ℕ) where
-  pub scanStart : (n : ℕ) → Scanned own far table n 0 n 0 n 0
+module _ (mine : ℕ → Bool) (table : List ℕ) where
+  pub scanStart : (n : ℕ) → Scanned mine table n 0 n 0 n 0
   scanStart n =
       record {
-        ours = heldNone true table (ours own far table) n 0;
-        theirs = λ e. heldNone false table (theirs own far table) n 0;
+        ours = heldNone true table (ours mine table) n 0;
+        theirs = λ e. heldNone false table (theirs mine table) n 0;
         good = λ j h t. omega arith;
         on = λ j h t. omega arith;
       }
 
-  module _ {n i o p t q : ℕ} (s : Scanned own far table n i o p t q) (below : i < n) (ok : allowedAt table i ≡ true) where
+  module _ {n i o p t q : ℕ} (s : Scanned mine table n i o p t q) (below : i < n) (ok : allowedAt table i ≡ true) where
     good : (j : ℕ) → j < suc i → T (bad table j) → ⊥
     good = withLast i (λ j. T (bad table j) → ⊥) (s .good) (λ x. rw ok at x)
 
-    on : (T (stops own far table i) → ⊥) → (j : ℕ) → j < suc i → T (stops own far table j) → ⊥
-    on past = withLast i (λ j. T (stops own far table j) → ⊥) (s .on) past
+    on : (T (stops mine table i) → ⊥) → (j : ℕ) → j < suc i → T (stops mine table j) → ⊥
+    on past = withLast i (λ j. T (stops mine table j) → ⊥) (s .on) past
 
-    pub scanBusy : free (stateAt table i) (flagsAt table i) ≡ false → Scanned own far table n (i + 1) o p t q
+    pub scanBusy : free (stateAt table i) (flagsAt table i) ≡ false → Scanned mine table n (i + 1) o p t q
     scanBusy e =
         rw (next i)
         (record {
-          ours = heldPast true table (ours own far table) n (s .ours) (λ x. rw e at x);
-          theirs = λ d. heldPast false table (theirs own far table) n (s .theirs d) (λ x. rw e at x);
+          ours = heldPast true table (ours mine table) n (s .ours) (λ x. rw e at x);
+          theirs = λ d. heldPast false table (theirs mine table) n (s .theirs d) (λ x. rw e at x);
           good = good;
           on = on (λ x. rw e at x);
         })
 
     -- one of theirs, where one of ours is found
-    pub scanOver : controls own far i ≡ false → (o ≡ n → ⊥) → Scanned own far table n (i + 1) o p t q
+    pub scanOver : mine i ≡ false → (o ≡ n → ⊥) → Scanned mine table n (i + 1) o p t q
     scanOver e some =
         rw (next i)
         (record {
-          ours = heldPast true table (ours own far table) n (s .ours) not;
+          ours = heldPast true table (ours mine table) n (s .ours) not;
           theirs = λ d. absurd (some d);
           good = good;
-          on = on (λ x. not (left (ours own far table i) _ x));
+          on = on (λ x. not (left (ours mine table i) _ x));
         })
       where
-        not : T (ours own far table i) → ⊥
-        not x = subst T e (right (free (stateAt table i) (flagsAt table i)) (controls own far i) x)
+        not : T (ours mine table i) → ⊥
+        not x = subst T e (right (free (stateAt table i) (flagsAt table i)) (mine i) x)
 
     module _ (is : free (stateAt table i) (flagsAt table i) ≡ true) (rank : ℕ) (r : rank ≡ rankAt table i) where
-      module _ (e : controls own far i ≡ false) where
-        notOurs : Held true table (ours own far table) n (suc i) o p
-        notOurs = heldPast true table (ours own far table) n (s .ours) (λ x. rw (is, e) at x)
+      module _ (e : mine i ≡ false) where
+        notOurs : Held true table (ours mine table) n (suc i) o p
+        notOurs = heldPast true table (ours mine table) n (s .ours) (λ x. rw (is, e) at x)
 
         module _ (none : o ≡ n) where
-          pub scanTheirs : (eqb t n || ltb q rank) ≡ true → Scanned own far table n (i + 1) o p i rank
+          pub scanTheirs : (eqb t n || ltb q rank) ≡ true → Scanned mine table n (i + 1) o p i rank
           scanTheirs b =
               rw (next i)
-              (record { ours = notOurs; theirs = λ d. heldNew false table (theirs own far table) n (s .theirs none) below (rw (is, e) tt) rank r b; good = good; on = on (λ x. rw (is, e) at x) })
+              (record { ours = notOurs; theirs = λ d. heldNew false table (theirs mine table) n (s .theirs none) below (rw (is, e) tt) rank r b; good = good; on = on (λ x. rw (is, e) at x) })
 
-          pub scanTheirsStay : (eqb t n || ltb q rank) ≡ false → Scanned own far table n (i + 1) o p t q
+          pub scanTheirsStay : (eqb t n || ltb q rank) ≡ false → Scanned mine table n (i + 1) o p t q
           scanTheirsStay b =
               rw (next i)
-              (record { ours = notOurs; theirs = λ d. heldStays false table (theirs own far table) n (s .theirs none) below (rw (is, e) tt) rank r b; good = good; on = on (λ x. rw (is, e) at x) })
+              (record { ours = notOurs; theirs = λ d. heldStays false table (theirs mine table) n (s .theirs none) below (rw (is, e) tt) rank r b; good = good; on = on (λ x. rw (is, e) at x) })
 
-      module _ (e : controls own far i ≡ true) (used : rank ≡ 0 → ⊥) where
-        goesOn : T (stops own far table i) → ⊥
-        goesOn x = used (r ∙ eqb-true _ _ (isTrue _ (right (ours own far table i) _ x)))
+      module _ (e : mine i ≡ true) (used : rank ≡ 0 → ⊥) where
+        goesOn : T (stops mine table i) → ⊥
+        goesOn x = used (r ∙ eqb-true _ _ (isTrue _ (right (ours mine table i) _ x)))
 
-        new : better true (eqb o n) rank p ≡ true → Scanned own far table n (i + 1) i rank n 0
+        new : better true (eqb o n) rank p ≡ true → Scanned mine table n (i + 1) i rank n 0
         new b =
             rw (next i)
-            (record { ours = heldNew true table (ours own far table) n (s .ours) below (rw (is, e) tt) rank r b; theirs = λ d. absurd (omega arith); good = good; on = on goesOn })
+            (record { ours = heldNew true table (ours mine table) n (s .ours) below (rw (is, e) tt) rank r b; theirs = λ d. absurd (omega arith); good = good; on = on goesOn })
 
-        pub scanFirst : o ≡ n → Scanned own far table n (i + 1) i rank n 0
+        pub scanFirst : o ≡ n → Scanned mine table n (i + 1) i rank n 0
         scanFirst none = new (rw (eq-eqb o n none))
 
         -- a later one of ours
         module _ (some : o ≡ n → ⊥) where
-          pub scanOurs : rank < p → Scanned own far table n (i + 1) i rank n 0
+          pub scanOurs : rank < p → Scanned mine table n (i + 1) i rank n 0
           scanOurs h = new (rw (ne-eqb o n some, lt-ltb rank p h))
 
-          pub scanOursStay : p ≤ rank → Scanned own far table n (i + 1) o p t q
+          pub scanOursStay : p ≤ rank → Scanned mine table n (i + 1) o p t q
           scanOursStay h =
               rw (next i)
               (record {
-                ours = heldStays true table (ours own far table) n (s .ours) below (rw (is, e) tt) rank r (rw (ne-eqb o n some, le-ltb rank p h));
+                ours = heldStays true table (ours mine table) n (s .ours) below (rw (is, e) tt) rank r (rw (ne-eqb o n some, le-ltb rank p h));
                 theirs = λ d. absurd (some d);
                 good = good;
                 on = on goesOn;
               })
 
   -- the definition's choice, from the best of ours or of theirs
-  choiceOurs : (n b k : ℕ) → Best (ours own far table) (goes true table) n b → looked own far table n ≡ k → choice own far table n ≡ taken b k
+  choiceOurs : (n b k : ℕ) → Best (ours mine table) (goes true table) n b → looked mine table n ≡ k → choice mine table n ≡ taken b k
   unfolding choice
-  choiceOurs n b k w e = rw (someAt n (ours own far table) b (w .below) (w .is), theBest (order true table) w, e)
+  choiceOurs n b k w e = rw (someAt n (ours mine table) b (w .below) (w .is), theBest (order true table) w, e)
 
-  choiceTheirs : (n b : ℕ) → ((j : ℕ) → j < n → T (ours own far table j) → ⊥) → Best (theirs own far table) (goes false table) n b → choice own far table n ≡ taken b n
+  choiceTheirs : (n b : ℕ) → ((j : ℕ) → j < n → T (ours mine table j) → ⊥) → Best (theirs mine table) (goes false table) n b → choice mine table n ≡ taken b n
   unfolding choice
-  choiceTheirs n b none w = rw (noneOf n (ours own far table) none, someAt n (theirs own far table) b (w .below) (w .is), theBest (order false table) w)
+  choiceTheirs n b none w = rw (noneOf n (ours mine table) none, someAt n (theirs mine table) b (w .below) (w .is), theBest (order false table) w)
 
-  choiceNone : (n : ℕ) → ((j : ℕ) → j < n → T (ours own far table j) → ⊥) → ((j : ℕ) → j < n → T (theirs own far table j) → ⊥) → choice own far table n ≡ refused 14
+  choiceNone : (n : ℕ) → ((j : ℕ) → j < n → T (ours mine table j) → ⊥) → ((j : ℕ) → j < n → T (theirs mine table j) → ⊥) → choice mine table n ≡ refused 14
   unfolding choice
-  choiceNone n none neither = rw (noneOf n (ours own far table) none, noneOf n (theirs own far table) neither)
+  choiceNone n none neither = rw (noneOf n (ours mine table) none, noneOf n (theirs mine table) neither)
 
   -- a bad record
-  pub scanBad : (i n : ℕ) → i < n → allowedAt table i ≡ false → refused 12 ≡ searched own far table n
+  pub scanBad : (i n : ℕ) → i < n → allowedAt table i ≡ false → refused 12 ≡ searched mine table n
   scanBad i n h e = rw (someAt n (bad table) i h (rw e tt))
 
   -- the whole table, where none of ours was found and where one was
-  module _ {n o p t q : ℕ} (s : Scanned own far table n n o p t q) where
-    pub scanEnd : o ≡ n → concluded t n ≡ searched own far table n
+  module _ {n o p t q : ℕ} (s : Scanned mine table n n o p t q) where
+    pub scanEnd : o ≡ n → concluded t n ≡ searched mine table n
     scanEnd none = rw (noneOf n (bad table) (s .good)) (go (eqb t n) refl)
       where
-        go : (b : Bool) → eqb t n ≡ b → cond b (refused 14) (taken t n) ≡ choice own far table n
+        go : (b : Bool) → eqb t n ≡ b → cond b (refused 14) (taken t n) ≡ choice mine table n
         go false d = sym (choiceTheirs n t (s .ours .none none) (s .theirs none .best (eqb-false t n d)))
         go true d = sym (choiceNone n (s .ours .none none) (s .theirs none .none (eqb-true t n d)))
 
-    pub scanEndOurs : (o ≡ n → ⊥) → taken o n ≡ searched own far table n
-    scanEndOurs some = rw (noneOf n (bad table) (s .good)) (sym (choiceOurs n o n (s .ours .best some) (rw (noneOf n (stops own far table) (s .on)))))
+    pub scanEndOurs : (o ≡ n → ⊥) → taken o n ≡ searched mine table n
+    scanEndOurs some = rw (noneOf n (bad table) (s .good)) (sym (choiceOurs n o n (s .ours .best some) (rw (noneOf n (stops mine table) (s .on)))))
 
   -- one of ours with rank 0
-  module _ {n i o p t q : ℕ} (s : Scanned own far table n i o p t q) (h : i < n) (ok : allowedAt table i ≡ true) (is : free (stateAt table i) (flagsAt table i) ≡ true) (c : controls own far i ≡ true) (unused : rankAt table i ≡ 0) where
-    here : T (stops own far table i)
+  module _ {n i o p t q : ℕ} (s : Scanned mine table n i o p t q) (h : i < n) (ok : allowedAt table i ≡ true) (is : free (stateAt table i) (flagsAt table i) ≡ true) (c : mine i ≡ true) (unused : rankAt table i ≡ 0) where
+    here : T (stops mine table i)
     here = rw (is, c, unused) tt
 
     -- the records judged so far are not judged again
@@ -396,9 +396,9 @@ module _ (own far : ℕ) (table : List ℕ) where
             let l : j < i + 1 = leb-false _ _ e in
             sym (isFalse (bad table j) (withLast i (λ j. T (bad table j) → ⊥) (s .good) (λ x. rw ok at x) j (omega arith)))
 
-    pub scanStop : stopped table i (i + 1) n ≡ searched own far table n
+    pub scanStop : stopped table i (i + 1) n ≡ searched mine table n
     scanStop =
         rw (
           behind,
-          choiceOurs n i (i + 1) (firstUnused own far table n i h here (s .on)) (rw (someAt n (stops own far table) i h here, firstAt n (stops own far table) i h here (s .on))),
+          choiceOurs n i (i + 1) (firstUnused mine table n i h here (s .on)) (rw (someAt n (stops mine table) i h here, firstAt n (stops mine table) i h here (s .on))),
         )

@@ -25,12 +25,12 @@ free s f = eqb s 0 && not (recordOf s f .far)
 abbrev pub qualifies : List ℕ → ℕ → Bool
 qualifies table i = free (stateAt table i) (flagsAt table i)
 
--- that we control; those we do not control
-abbrev pub ours : (own far : ℕ) → List ℕ → ℕ → Bool
-ours own far table i = qualifies table i && controls own far i
+-- that we control (mine); those we do not control
+abbrev pub ours : (mine : ℕ → Bool) → List ℕ → ℕ → Bool
+ours mine table i = qualifies table i && mine i
 
-abbrev pub theirs : (own far : ℕ) → List ℕ → ℕ → Bool
-theirs own far table i = qualifies table i && not (controls own far i)
+abbrev pub theirs : (mine : ℕ → Bool) → List ℕ → ℕ → Bool
+theirs mine table i = qualifies table i && not (mine i)
 
 -- released earlier, released later; equal ranks go to the lower CIC
 abbrev pub earlier : List ℕ → (i j : ℕ) → Bool
@@ -40,17 +40,17 @@ abbrev pub later : List ℕ → (i j : ℕ) → Bool
 later table i j = ltb (rankAt table j) (rankAt table i) || (eqb (rankAt table i) (rankAt table j) && leb i j)
 
 -- how many records were looked at: the whole table, unless a qualifying one of our own with rank 0 is found, where it stops
-abbrev pub stops : (own far : ℕ) → List ℕ → ℕ → Bool
-stops own far table i = ours own far table i && eqb (rankAt table i) 0
+abbrev pub stops : (mine : ℕ → Bool) → List ℕ → ℕ → Bool
+stops mine table i = ours mine table i && eqb (rankAt table i) 0
 
-abbrev pub looked : (own far : ℕ) → List ℕ → (n : ℕ) → ℕ
-looked own far table n = cond (some n (stops own far table)) (first n (stops own far table) + 1) n
+abbrev pub looked : (mine : ℕ → Bool) → List ℕ → (n : ℕ) → ℕ
+looked mine table n = cond (some n (stops mine table)) (first n (stops mine table) + 1) n
 
 -- of n circuits: first, of ours, the one released longest ago; if there are none, of theirs, the one released latest; 14 if there are none either
-unfoldable pub choice : (own far : ℕ) → List ℕ → (n : ℕ) → Selected
-choice own far table n =
-    cond (some n (ours own far table)) (taken (best n (ours own far table) (earlier table)) (looked own far table n))
-    (cond (some n (theirs own far table)) (taken (best n (theirs own far table) (later table)) n)
+unfoldable pub choice : (mine : ℕ → Bool) → List ℕ → (n : ℕ) → Selected
+choice mine table n =
+    cond (some n (ours mine table)) (taken (best n (ours mine table) (earlier table)) (looked mine table n))
+    (cond (some n (theirs mine table)) (taken (best n (theirs mine table) (later table)) n)
     (refused 14))
 
 -- 1; then 12 for any bad record of the table
@@ -61,4 +61,4 @@ unfoldable pub selectIn : (own far : ℕ) → List ℕ → Selected
 selectIn own far table =
     cond (badGroup own far (recordsIn (length table))) (refused 1)
     (cond (some (recordsIn (length table)) (bad table)) (refused 12)
-    (choice own far table (recordsIn (length table))))
+    (choice (controls own far) table (recordsIn (length table))))

@@ -7,6 +7,7 @@ ghost use mathlib.Core.Bool.{not};
 ghost use Prim.Native.Nat.{_<_, _≤_};
 ghost use lib.ListN.{length};
 ghost use Rattle.layout.specs.Layout.{recordsIn};
+ghost use Rattle.circuit.specs.Groups.{lowest, byParity};
 ghost use Rattle.select.specs.First.{some};
 ghost use Rattle.select.specs.Selection.{refused, taken, free, selectIn};
 ghost use Rattle.select.specs.Search.{badFrom, stopped, concluded, searched, Scanned};
@@ -46,6 +47,13 @@ fn free(at: Stored) -> bool
     circuit::both(at.state == 0, !rec.far)
 }
 
+// The lowest circuit that we control: 0 or 1.
+fn lowest_of_ours(own: PointCode, far: PointCode) -> u32
+    ensures { λ r. ⌜ r ≡ lowest (own .0) (far .0) ⌝ }
+{
+    if far.0 < own.0 { 0 } else { 1 }
+}
+
 // Whether all records from one on are allowed.
 fn allowed_from(table: &[u8], from: u32, records: u32) -> bool
     requires { ⌜ records ≤ recordsIn (length (now table)) ⌝ }
@@ -73,19 +81,11 @@ fn stop(table: &[u8], cic: u32, looked: u32, records: u32) -> Selected
 }
 
 // The records from one on, where circuit `best` with its rank is the best of ours before them: theirs are passed over.
-fn ours_from(
-    own: PointCode,
-    far: PointCode,
-    table: &[u8],
-    from: u32,
-    best: u32,
-    rank: u64,
-    records: u32,
-) -> Selected
+fn ours_from(first: u32, table: &[u8], from: u32, best: u32, rank: u64, records: u32) -> Selected
     requires { ⌜ records ≤ recordsIn (length (now table)) ⌝ }
     requires { ⌜ (from ≤ records) × (best < records) ⌝ }
-    requires { ⌜ Scanned (own .0) (far .0) (now table) records from best rank records 0 ⌝ }
-    ensures { λ r. ⌜ r ≡ searched (own .0) (far .0) (now (table .entry)) records ⌝ }
+    requires { ⌜ Scanned (byParity first) (now table) records from best rank records 0 ⌝ }
+    ensures { λ r. ⌜ r ≡ searched (byParity first) (now (table .entry)) records ⌝ }
 {
     let mut chosen = best;
     let mut lowest = rank;
@@ -94,7 +94,7 @@ fn ours_from(
         if !layout::allowed(at.state, at.flags) {
             return refused(12);
         }
-        if !circuit::controls(own, far, Cic(i)) {
+        if i % 2 != first {
             continue;
         }
         if !free(at) {
@@ -122,10 +122,10 @@ fn conclude(theirs: u32, records: u32) -> Selected
     }
 }
 
-// Judges each record and looks at it, and stops at one of our own with rank 0: none can have been released before it.
-fn search(own: PointCode, far: PointCode, table: &[u8], records: u32) -> Selected
+// Judges each record and looks at it, where ours are the circuits of one parity, and stops at one of our own with rank 0: none can have been released before it.
+fn search(first: u32, table: &[u8], records: u32) -> Selected
     requires { ⌜ records ≤ recordsIn (length (now table)) ⌝ }
-    ensures { λ r. ⌜ r ≡ searched (own .0) (far .0) (now (table .entry)) records ⌝ }
+    ensures { λ r. ⌜ r ≡ searched (byParity first) (now (table .entry)) records ⌝ }
 {
     let mut theirs = records;
     let mut highest = 0;
@@ -137,11 +137,11 @@ fn search(own: PointCode, far: PointCode, table: &[u8], records: u32) -> Selecte
         if !free(at) {
             continue;
         }
-        if circuit::controls(own, far, Cic(i)) {
+        if i % 2 == first {
             if at.rank == 0 {
                 return stop(table, i, i + 1, records);
             }
-            return ours_from(own, far, table, i + 1, i, at.rank, records);
+            return ours_from(first, table, i + 1, i, at.rank, records);
         }
         if circuit::either(theirs == records, highest < at.rank) {
             theirs = i;
@@ -159,5 +159,5 @@ pub fn select(own: PointCode, far: PointCode, table: &[u8]) -> Selected
     if circuit::bad_group(own, far, records) {
         return refused(1);
     }
-    search(own, far, table, records as u32)
+    search(lowest_of_ours(own, far), table, records as u32)
 }

@@ -4,18 +4,19 @@ use Prim.Native.Nat.{_-_, _<_, _≤_}
 use native.Mathlib.Omega.{arith}
 use mathlib.Core.Path.{_≡_, sym, _∙_}
 use mathlib.Core.Logic.{⊎-elim}
-use borrow.Author.Tests.{not-true, not-false}
+use borrow.Author.Tests.{not-true, not-false, eq-eqb, ne-eqb}
 use borrow.Author.Needs.{needs}
+use Rattle.circuit.specs.Groups.{byParity}
 use Rattle.select.specs.Search.{judged, freeAt, rankIs, Scanned, scanBusy, scanOver, scanOurs, scanOursStay, scanBad, scanStop, scanEndOurs}
 use Rattle.select.proofs.ours_from.Statement.{statement}
 use Rattle.select.proofs.ours_from.Tie as tie
 
 abbrev Inv-loop : tie.InvT-loop
-Inv-loop own far table from best rank records chosen₀ lowest₀ i₀ chosen lowest i =
-    (i ≤ records) × (chosen < records) × Scanned (own .0) (far .0) table records i chosen lowest records 0
+Inv-loop first table from best rank records chosen₀ lowest₀ i₀ chosen lowest i =
+    (i ≤ records) × (chosen < records) × Scanned (byParity first) table records i chosen lowest records 0
 
 abbrev μ-loop : tie.MeasureT-loop
-μ-loop own far table from best rank records chosen₀ lowest₀ i₀ chosen lowest i = records - i
+μ-loop first table from best rank records chosen₀ lowest₀ i₀ chosen lowest i = records - i
 
 loop-holds : tie.Need-loop-holds Inv-loop μ-loop
 loop-holds c = let p = c .before .pre in (p .1 .0 .0, p .1 .0 .1, p .1 .1)
@@ -33,10 +34,7 @@ returns : tie.Need-returns Inv-loop μ-loop
 returns c =
     let a = c .before .before in let r = a .before in let l = r .before in
     let all = l .before .before .before .pre .0 in let h = l .loop-test .taken in
-    c .refused .ensures ∙ scanBad _ _ _ _ _ h (judged _ _ _ all h (r .stored-at .ensures) (a .allowed .ensures) ∙ not-true _ (c .before .if1 .taken))
-
-controls-requires : tie.Need-controls-requires Inv-loop μ-loop
-controls-requires c κs = search needs
+    c .refused .ensures ∙ scanBad _ _ _ _ h (judged _ _ _ all h (r .stored-at .ensures) (a .allowed .ensures) ∙ not-true _ (c .before .if1 .taken))
 
 add-i : tie.Need-add-i Inv-loop μ-loop
 add-i c = search needs
@@ -47,12 +45,12 @@ loop-less c = search needs
 -- one of theirs
 loop-again : tie.Need-loop-again Inv-loop μ-loop
 loop-again c =
-    let k = c .before in let a = k .before .before in let r = a .before in let l = r .before in
+    let k = c .before in let a = k .before in let r = a .before in let l = r .before in
     let all = l .before .before .before .pre .0 in let h = l .loop-test .taken in let i = l .before .loop .inv in (
       search needs,
       i .1,
-      scanOver _ _ _ (i .2) h (judged _ _ _ all h (r .stored-at .ensures) (a .allowed .ensures) ∙ not-false _ (k .before .if1 .left))
-          (sym (k .controls .ensures) ∙ not-true _ (c .if2 .taken)) (λ d. omega (arith, i .1, d)),
+      scanOver _ _ (i .2) h (judged _ _ _ all h (r .stored-at .ensures) (a .allowed .ensures) ∙ not-false _ (k .if1 .left))
+          (ne-eqb _ _ (c .if2 .taken)) (λ d. omega (arith, i .1, d)),
     )
 
 free-requires : tie.Need-free-requires Inv-loop μ-loop
@@ -67,11 +65,11 @@ loop-less-2 c = search needs
 -- one of ours that does not qualify
 loop-again-2 : tie.Need-loop-again-2 Inv-loop μ-loop
 loop-again-2 c =
-    let f = c .before in let k = f .before .before in let a = k .before .before in let r = a .before in let l = r .before in
+    let f = c .before in let k = f .before .before in let a = k .before in let r = a .before in let l = r .before in
     let all = l .before .before .before .pre .0 in let h = l .loop-test .taken in let e = r .stored-at .ensures in let i = l .before .loop .inv in (
       search needs,
       i .1,
-      scanBusy _ _ _ (i .2) h (judged _ _ _ all h e (a .allowed .ensures) ∙ not-false _ (k .before .if1 .left)) (freeAt _ _ _ all h e (f .free .ensures) ∙ not-true _ (c .if3 .taken)),
+      scanBusy _ _ (i .2) h (judged _ _ _ all h e (a .allowed .ensures) ∙ not-false _ (k .if1 .left)) (freeAt _ _ _ all h e (f .free .ensures) ∙ not-true _ (c .if3 .taken)),
     )
 
 add-stop : tie.Need-add-stop Inv-loop μ-loop
@@ -83,12 +81,12 @@ stop-requires c κs = search needs
 -- one with rank 0
 returns-2 : tie.Need-returns-2 Inv-loop μ-loop
 returns-2 c =
-    let z = c .before in let f = z .before .before .before in let k = f .before .before in let a = k .before .before in let r = a .before in let l = r .before in
+    let z = c .before in let f = z .before .before .before in let k = f .before .before in let a = k .before in let r = a .before in let l = r .before in
     let all = l .before .before .before .pre .0 in let h = l .loop-test .taken in let e = r .stored-at .ensures in
     c .stop .ensures
-    ∙ scanStop _ _ _ (l .before .loop .inv .2) h (judged _ _ _ all h e (a .allowed .ensures) ∙ not-false _ (k .before .if1 .left))
+    ∙ scanStop _ _ (l .before .loop .inv .2) h (judged _ _ _ all h e (a .allowed .ensures) ∙ not-false _ (k .if1 .left))
     (freeAt _ _ _ all h e (f .free .ensures) ∙ not-false _ (z .before .before .if3 .left))
-    (sym (k .controls .ensures) ∙ not-false _ (f .before .if2 .left)) (sym (rankIs _ _ _ all h e) ∙ z .if4 .taken)
+    (eq-eqb _ _ (f .before .if2 .left)) (sym (rankIs _ _ _ all h e) ∙ z .if4 .taken)
 
 add-i-3 : tie.Need-add-i-3 Inv-loop μ-loop
 add-i-3 c = search needs
@@ -99,15 +97,15 @@ loop-less-3 c = search needs
 -- one that is the best so far, or is not
 loop-again-3 : tie.Need-loop-again-3 Inv-loop μ-loop
 loop-again-3 c =
-    let z = c .before .before in let f = z .before .before .before in let k = f .before .before in let a = k .before .before in let r = a .before in let l = r .before in
+    let z = c .before .before in let f = z .before .before .before in let k = f .before .before in let a = k .before in let r = a .before in let l = r .before in
     let all = l .before .before .before .pre .0 in let h = l .loop-test .taken in let e = r .stored-at .ensures in let i = l .before .loop .inv in
-    let ok = judged _ _ _ all h e (a .allowed .ensures) ∙ not-false _ (k .before .if1 .left) in
+    let ok = judged _ _ _ all h e (a .allowed .ensures) ∙ not-false _ (k .if1 .left) in
     let is = freeAt _ _ _ all h e (f .free .ensures) ∙ not-false _ (z .before .before .if3 .left) in
-    let con = sym (k .controls .ensures) ∙ not-false _ (f .before .if2 .left) in (
+    let con = eq-eqb _ _ (f .before .if2 .left) in (
       search needs,
       ⊎-elim (λ w. rw (w .1) h) (λ w. rw (w .1) (i .1)) (c .if5 .came),
-      ⊎-elim (λ w. rw (w .1, w .2) (scanOurs _ _ _ (i .2) h ok is _ (rankIs _ _ _ all h e) con (z .if4 .left) (λ d. omega (arith, i .1, d)) (w .0 .taken)))
-          (λ w. rw (w .1, w .2) (scanOursStay _ _ _ (i .2) h ok is _ (rankIs _ _ _ all h e) con (z .if4 .left) (λ d. omega (arith, i .1, d)) (w .0 .left))) (c .if5 .came),
+      ⊎-elim (λ w. rw (w .1, w .2) (scanOurs _ _ (i .2) h ok is _ (rankIs _ _ _ all h e) con (z .if4 .left) (λ d. omega (arith, i .1, d)) (w .0 .taken)))
+          (λ w. rw (w .1, w .2) (scanOursStay _ _ (i .2) h ok is _ (rankIs _ _ _ all h e) con (z .if4 .left) (λ d. omega (arith, i .1, d)) (w .0 .left))) (c .if5 .came),
     )
 
 taken-requires : tie.Need-taken-requires Inv-loop μ-loop
@@ -117,7 +115,7 @@ returns-3 : tie.Need-returns-3 Inv-loop μ-loop
 returns-3 c =
     let l = c .before .before in
     let all : l .loop .i ≡ l .before .before .args .records = omega (arith, c .before .loop-test .left, l .loop .inv .0) in
-    c .taken .ensures ∙ scanEndOurs _ _ _ (rw all at (l .loop .inv .2)) (λ d. omega (arith, l .loop .inv .1, d))
+    c .taken .ensures ∙ scanEndOurs _ _ (rw all at (l .loop .inv .2)) (λ d. omega (arith, l .loop .inv .1, d))
 
 pub ours-from-spec : {M : Type 1} → statement M
 ours-from-spec =
@@ -130,7 +128,6 @@ ours-from-spec =
     allowed-requires
     refused-requires
     returns
-    controls-requires
     add-i
     loop-less
     loop-again

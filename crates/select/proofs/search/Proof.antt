@@ -4,21 +4,22 @@ use Prim.Native.Nat.{_-_, _≤_}
 use native.Mathlib.Omega.{arith}
 use mathlib.Core.Path.{_≡_, refl, sym, _∙_}
 use mathlib.Core.Logic.{⊎-elim}
-use borrow.Author.Tests.{not-true, not-false}
+use borrow.Author.Tests.{not-true, not-false, eq-eqb, ne-eqb}
 use borrow.Author.Needs.{needs}
+use Rattle.circuit.specs.Groups.{byParity}
 use Rattle.select.specs.Search.{judged, freeAt, rankIs, Scanned, scanStart, scanBusy, scanTheirs, scanTheirsStay, scanFirst, scanBad, scanStop, scanEnd}
 use Rattle.select.proofs.search.Statement.{statement}
 use Rattle.select.proofs.search.Tie as tie
 
 abbrev Inv-loop : tie.InvT-loop
-Inv-loop own far table records theirs₀ highest₀ i₀ theirs highest i =
-    (i ≤ records) × Scanned (own .0) (far .0) table records i records 0 theirs highest
+Inv-loop first table records theirs₀ highest₀ i₀ theirs highest i =
+    (i ≤ records) × Scanned (byParity first) table records i records 0 theirs highest
 
 abbrev μ-loop : tie.MeasureT-loop
-μ-loop own far table records theirs₀ highest₀ i₀ theirs highest i = records - i
+μ-loop first table records theirs₀ highest₀ i₀ theirs highest i = records - i
 
 loop-holds : tie.Need-loop-holds Inv-loop μ-loop
-loop-holds c = (search needs, scanStart _ _ _ _)
+loop-holds c = (search needs, scanStart _ _ _)
 
 stored-at-requires : tie.Need-stored-at-requires Inv-loop μ-loop
 stored-at-requires c κs = search needs
@@ -33,7 +34,7 @@ returns : tie.Need-returns Inv-loop μ-loop
 returns c =
     let a = c .before .before in let r = a .before in let l = r .before in
     let all = l .before .before .before .pre in let h = l .loop-test .taken in let e = r .stored-at .ensures in let i = l .before .loop .inv in
-    c .refused .ensures ∙ scanBad _ _ _ _ _ h (judged _ _ _ all h e (a .allowed .ensures) ∙ not-true _ (c .before .if1 .taken))
+    c .refused .ensures ∙ scanBad _ _ _ _ h (judged _ _ _ all h e (a .allowed .ensures) ∙ not-true _ (c .before .if1 .taken))
 
 free-requires : tie.Need-free-requires Inv-loop μ-loop
 free-requires c κs = search needs
@@ -49,10 +50,7 @@ loop-again c =
     let f = c .before in let a = f .before .before in let r = a .before in let l = r .before in
     let all = l .before .before .before .pre in let h = l .loop-test .taken in let e = r .stored-at .ensures in let i = l .before .loop .inv in
     let ok = judged _ _ _ all h e (a .allowed .ensures) ∙ not-false _ (f .before .if1 .left) in
-    (search needs, scanBusy _ _ _ (i .1) h ok (freeAt _ _ _ all h e (f .free .ensures) ∙ not-true _ (c .if2 .taken)))
-
-controls-requires : tie.Need-controls-requires Inv-loop μ-loop
-controls-requires c κs = search needs
+    (search needs, scanBusy _ _ (i .1) h ok (freeAt _ _ _ all h e (f .free .ensures) ∙ not-true _ (c .if2 .taken)))
 
 add-stop : tie.Need-add-stop Inv-loop μ-loop
 add-stop c = search needs
@@ -62,23 +60,23 @@ stop-requires c κs = search needs
 
 returns-2 : tie.Need-returns-2 Inv-loop μ-loop
 returns-2 c =
-    let z = c .before in let k = z .before .before .before in let f = k .before .before in let a = f .before .before in let r = a .before in let l = r .before in
+    let z = c .before in let k = z .before .before .before in let f = k .before in let a = f .before .before in let r = a .before in let l = r .before in
     let all = l .before .before .before .pre in let h = l .loop-test .taken in let e = r .stored-at .ensures in let i = l .before .loop .inv in
     let ok = judged _ _ _ all h e (a .allowed .ensures) ∙ not-false _ (f .before .if1 .left) in
-    let is = freeAt _ _ _ all h e (f .free .ensures) ∙ not-false _ (k .before .if2 .left) in
+    let is = freeAt _ _ _ all h e (f .free .ensures) ∙ not-false _ (k .if2 .left) in
     c .stop .ensures
-    ∙ scanStop _ _ _ (i .1) h ok is (sym (k .controls .ensures) ∙ z .before .before .if3 .taken) (sym (rankIs _ _ _ all h e) ∙ z .if4 .taken)
+    ∙ scanStop _ _ (i .1) h ok is (eq-eqb _ _ (z .before .before .if3 .taken)) (sym (rankIs _ _ _ all h e) ∙ z .if4 .taken)
 
 add-ours-from : tie.Need-add-ours-from Inv-loop μ-loop
 add-ours-from c = search needs
 
 ours-from-requires : tie.Need-ours-from-requires Inv-loop μ-loop
 ours-from-requires c κs =
-    let k = c .before .before .before in let f = k .before .before in let a = f .before .before in let r = a .before in let l = r .before in
+    let k = c .before .before .before in let f = k .before in let a = f .before .before in let r = a .before in let l = r .before in
     let all = l .before .before .before .pre in let h = l .loop-test .taken in let e = r .stored-at .ensures in let i = l .before .loop .inv in
     let ok = judged _ _ _ all h e (a .allowed .ensures) ∙ not-false _ (f .before .if1 .left) in
-    let is = freeAt _ _ _ all h e (f .free .ensures) ∙ not-false _ (k .before .if2 .left) in
-    (all, ((search needs, h), scanFirst _ _ _ (i .1) h ok is _ (rankIs _ _ _ all h e) (sym (k .controls .ensures) ∙ c .before .before .if3 .taken) (c .if4 .left) refl))
+    let is = freeAt _ _ _ all h e (f .free .ensures) ∙ not-false _ (k .if2 .left) in
+    (all, ((search needs, h), scanFirst _ _ (i .1) h ok is _ (rankIs _ _ _ all h e) (eq-eqb _ _ (c .before .before .if3 .taken)) (c .if4 .left) refl))
 
 returns-3 : tie.Need-returns-3 Inv-loop μ-loop
 returns-3 c = c .ours-from .ensures
@@ -94,14 +92,14 @@ loop-less-2 c = search needs
 
 loop-again-2 : tie.Need-loop-again-2 Inv-loop μ-loop
 loop-again-2 c =
-    let b = c .before in let k = b .before .before .before in let f = k .before .before in let a = f .before .before in let r = a .before in let l = r .before in
+    let b = c .before in let k = b .before .before .before in let f = k .before in let a = f .before .before in let r = a .before in let l = r .before in
     let all = l .before .before .before .pre in let h = l .loop-test .taken in let e = r .stored-at .ensures in let i = l .before .loop .inv in
     let ok = judged _ _ _ all h e (a .allowed .ensures) ∙ not-false _ (f .before .if1 .left) in
-    let is = freeAt _ _ _ all h e (f .free .ensures) ∙ not-false _ (k .before .if2 .left) in
-    let con = sym (k .controls .ensures) ∙ b .before .before .if3 .left in (
+    let is = freeAt _ _ _ all h e (f .free .ensures) ∙ not-false _ (k .if2 .left) in
+    let con = ne-eqb _ _ (b .before .before .if3 .left) in (
       search needs,
-      ⊎-elim (λ w. rw (w .1, w .2) (scanTheirs _ _ _ (i .1) h ok is _ (rankIs _ _ _ all h e) con refl (sym (b .either .ensures) ∙ w .0 .taken)))
-          (λ w. rw (w .1, w .2) (scanTheirsStay _ _ _ (i .1) h ok is _ (rankIs _ _ _ all h e) con refl (sym (b .either .ensures) ∙ w .0 .left))) (c .if5 .came),
+      ⊎-elim (λ w. rw (w .1, w .2) (scanTheirs _ _ (i .1) h ok is _ (rankIs _ _ _ all h e) con refl (sym (b .either .ensures) ∙ w .0 .taken)))
+          (λ w. rw (w .1, w .2) (scanTheirsStay _ _ (i .1) h ok is _ (rankIs _ _ _ all h e) con refl (sym (b .either .ensures) ∙ w .0 .left))) (c .if5 .came),
     )
 
 conclude-requires : tie.Need-conclude-requires Inv-loop μ-loop
@@ -111,7 +109,7 @@ returns-4 : tie.Need-returns-4 Inv-loop μ-loop
 returns-4 c =
     let l = c .before .before in
     let all : l .loop .i ≡ l .before .before .args .records = omega (arith, c .before .loop-test .left, l .loop .inv .0) in
-    c .conclude .ensures ∙ scanEnd _ _ _ (rw all at (l .loop .inv .1)) refl
+    c .conclude .ensures ∙ scanEnd _ _ (rw all at (l .loop .inv .1)) refl
 
 pub search-spec : {M : Type 1} → statement M
 search-spec =
@@ -128,7 +126,6 @@ search-spec =
     add-i
     loop-less
     loop-again
-    controls-requires
     add-stop
     stop-requires
     returns-2

@@ -22,27 +22,22 @@ returns c =
     let g = c .before .before in let n = g .before in
     c .refused .ensures ∙ noGroup _ _ _ (rw (n .records .ensures) at (sym (g .bad-group .ensures) ∙ c .before .if1 .taken))
 
+lowest-of-ours-requires : tie.Need-lowest-of-ours-requires
+lowest-of-ours-requires c κs = search needs
+
 cast-search : tie.Need-cast-search
 cast-search c =
-    let g = c .before in let n = g .before in let a = n .before .before .args in
-    record { fits = omega (arith, atMost4096 (a .own .0) (a .far .0) (n .records .result) (sym (g .bad-group .ensures) ∙ c .if1 .left)) }
+    let g = c .before .before in let n = g .before in let a = n .before .before .args in
+    record { fits = omega (arith, atMost4096 (a .own .0) (a .far .0) (n .records .result) (sym (g .bad-group .ensures) ∙ c .before .if1 .left)) }
 
 search-requires : tie.Need-search-requires
-search-requires c κs = search needs
+search-requires c κs = rw (c .before .before .before .records .ensures) (omega arith)
 
 returns-2 : tie.Need-returns-2
 returns-2 c =
-    let g = c .before .before in let n = g .before in
-    rw (n .records .ensures) at (c .search .ensures) ∙ inGroup _ _ _ (rw (n .records .ensures) at (sym (g .bad-group .ensures) ∙ c .before .if1 .left))
+    let m = c .before in let g = m .before .before in let n = g .before in
+    rw (n .records .ensures, m .lowest-of-ours .ensures) at (c .search .ensures)
+    ∙ inGroup _ _ _ (rw (n .records .ensures) at (sym (g .bad-group .ensures) ∙ m .before .if1 .left))
 
 pub select-spec : {M : Type 1} → statement M
-select-spec =
-    tie.close
-    (tie.spec
-    records-requires
-    bad-group-requires
-    refused-requires
-    returns
-    cast-search
-    search-requires
-    returns-2)
+select-spec = tie.close (tie.spec records-requires bad-group-requires refused-requires returns lowest-of-ours-requires cast-search search-requires returns-2)
