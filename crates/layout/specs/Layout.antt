@@ -3,17 +3,17 @@
 -- a word. Record i is circuit i, and a table of zeros is an idle group.
 -- Assumes nothing.
 use mathlib.Core.Path.{_≡_, refl, sym, _∙_}
-use mathlib.Core.Bool.{Bool, true, false, cond, _&&_}
+use mathlib.Core.Bool.{Bool, true, false, cond, _&&_, _||_}
 use mathlib.Core.List.{List}
 use Prim.Native.Nat.{ℕ, _+_, _*_, _-_, _/_, _%_, _^_, _<_, _≤_}
 use native.Mathlib.Omega.{arith}
 use native.Mathlib.Numerals.{unary-clauses}
-use lib.Dec.{eqb, eqb→eq, leb}
-use borrow.Author.Tests.{eqb-true, eqb-false, le-leb, lt-leb, lt-ltb}
+use lib.Dec.{eqb, eqb→eq, leb, ltb}
+use borrow.Author.Tests.{le-leb, lt-leb}
 use lib.ListN.{length, getD, set, length-set, replicate}
 use lib.Seq.{getD-set-same, getD-set-other, lt-length-set}
 use Rattle.circuit.specs.declared.Record.{Record}
-use Rattle.circuit.specs.Records.{rec, flagsAllowed, valid}
+use Rattle.circuit.specs.Records.{rec, flagsAllowed, onlyFar, valid}
 use Rattle.circuit.specs.Every.{atBelow, alike, alikeSame}
 use Rattle.layout.specs.declared.Stored.{Stored}
 use Rattle.words.specs.Words as words
@@ -142,25 +142,23 @@ recordBack r = go (r .own) (r .far) (r .bla) (r .uba)
     go false false false true = refl
     go false false false false = refl
 
--- the allowed flags as a set, as the program has them: flags f are in it where the bit worth 2^f is set
+-- the flags that are allowed in a state, as the program has them, a set: flags f are in it where the bit worth 2^f is set
+abbrev pub allowedIn : (state : ℕ) → ℕ
+allowedIn s = cond (ltb s 12) 0x05af 0x0005
+
 abbrev listed : (flags set : ℕ) → Bool
 listed f set = eqb (set / 2 ^ f % 2) 1
 
-pub allowedBelow12 : (s f : ℕ) → f ≤ 15 → s < 12 → listed f 0x05af ≡ allowed s f
+pub allowedListed : (s f : ℕ) → f ≤ 15 → s ≤ 12 → listed f (allowedIn s) ≡ allowed s f
 unfolding recordOf
-allowedBelow12 s f low h =
-    simp (le-leb f 15 low, le-leb s 12 (omega arith), lt-ltb s 12 h)
-    (alikeSame (listed f 0x05af) (flagsAllowed (recordOf s f) && true) (atBelow 16 (λ f. alike (listed f 0x05af) (flagsAllowed (recordOf s f) && true)) tt f (omega arith)))
-
-pub allowedFrom12 : (s f : ℕ) → f ≤ 15 → 12 ≤ s → (eqb s 12 && listed f 0x0005) ≡ allowed s f
-unfolding recordOf
-allowedFrom12 s f low h = go (eqb s 12) refl
+allowedListed s f low h = simp (le-leb f 15 low, le-leb s 12 h) (go (ltb s 12))
   where
-    go : (b : Bool) → eqb s 12 ≡ b → (b && listed f 0x0005) ≡ allowed s f
-    go true e =
-        rw (eqb-true s 12 e)
-        (simp (le-leb f 15 low) (alikeSame (listed f 0x0005) (valid (recordOf 12 f)) (atBelow 16 (λ f. alike (listed f 0x0005) (valid (recordOf 12 f))) tt f (omega arith))))
-    go false e = let other : s ≡ 12 → ⊥ = eqb-false s 12 e in simp (le-leb f 15 low, lt-leb s 12 (omega arith))
+    right : (b : Bool) (f : ℕ) → Bool
+    right b f = alike (listed f (cond b 0x05af 0x0005)) (flagsAllowed (recordOf s f) && (b || onlyFar (recordOf s f)))
+
+    go : (b : Bool) → listed f (cond b 0x05af 0x0005) ≡ (flagsAllowed (recordOf s f) && (b || onlyFar (recordOf s f)))
+    go true = alikeSame _ _ (atBelow 16 (right true) tt f (omega arith))
+    go false = alikeSame _ _ (atBelow 16 (right false) tt f (omega arith))
 
 -- a circuit of the table has its octets there
 inside : (octets i : ℕ) → i < recordsIn octets → tableOctets i + recordOctets ≤ octets

@@ -4,7 +4,7 @@ use circuit::Cic;
 use circuit::Record;
 ghost use mathlib.Core.Path.{_≡_};
 ghost use Prim.Native.Nat.{_≤_};
-ghost use Rattle.layout.specs.Layout.{tableOctets, recordsIn, counterIn, stateAt, flagsAt, rankAt, bit, flagsOf, recordOf, allowed, storedAt, put, putCounter, putRank};
+ghost use Rattle.layout.specs.Layout.{tableOctets, recordsIn, counterIn, stateAt, flagsAt, bit, flagsOf, recordOf, allowed, allowedIn, storedAt, put, putCounter, putRank};
 
 const COUNTER_OCTETS: usize = 8;
 
@@ -65,12 +65,6 @@ pub fn flags_at(table: &[u8], cic: Cic) -> u8
     words::octet(table, table_octets(cic.0), 1)
 }
 
-pub fn rank_at(table: &[u8], cic: Cic) -> u64
-    ensures { λ r. ⌜ r ≡ rankAt (now (table .entry)) (cic .0) ⌝ }
-{
-    words::word(table, table_octets(cic.0) + 2)
-}
-
 // All that stands at a circuit, by one look at the table's length.
 pub fn stored_at(table: &[u8], cic: Cic) -> Stored
     ensures { λ r. ⌜ r ≡ storedAt (now (table .entry)) (cic .0) ⌝ }
@@ -125,18 +119,29 @@ pub fn record_of(state: u8, flags: u8) -> Record
     }
 }
 
-// Whether two octets, state and flags, are a record that document 01 allows: refusal 12 is for the others. Sets of flags are asked, since a whole
-// table is judged by this.
+// The set of flags that are allowed in a state up to 12.
+fn allowed_in(state: u8) -> u32
+    ensures { λ r. ⌜ r ≡ allowedIn state ⌝ }
+{
+    if state < 12 {
+        ALLOWED
+    } else {
+        ALLOWED_IN_RESET
+    }
+}
+
+// Whether two octets, state and flags, are a record that document 01 allows: refusal 12 is for the others. A set is asked and not each flag, since
+// whole tables are judged by this.
 pub fn allowed(state: u8, flags: u8) -> bool
     ensures { λ r. ⌜ r ≡ allowed state flags ⌝ }
 {
     if 15 < flags {
         return false;
     }
-    if state < 12 {
-        return (ALLOWED >> flags) % 2 == 1;
+    if 12 < state {
+        return false;
     }
-    circuit::both(state == 12, (ALLOWED_IN_RESET >> flags) % 2 == 1)
+    (allowed_in(state) >> flags) % 2 == 1
 }
 
 // Puts a record at a circuit, which keeps its rank.

@@ -1,29 +1,32 @@
--- `layout::allowed` meets its contract.
--- Assumes nothing.
-use mathlib.Core.Path.{_∙_}
-use borrow.Author.Tests.{lt-leb}
+use borrow.Author.Tests.{le-leb, lt-leb}
 use borrow.Author.Needs.{needs}
-use Rattle.layout.specs.Layout.{allowedBelow12, allowedFrom12}
+use Rattle.layout.specs.Layout.{recordOf, allowedListed}
 use Rattle.layout.proofs.allowed.Statement.{statement}
 use Rattle.layout.proofs.allowed.Tie as tie
+use Rattle.layout.proofs.allowed.Reads as reads
+use Rattle.layout.proofs.allowed.Lts as lts
+use Rattle.layout.proofs.allowed_in.Reads as allowed-in-reads
 
+-- src/lib.rt:145:9
 returns : tie.Need-returns
 returns c = simp (lt-leb _ _ (c .if1 .taken))
 
+-- src/lib.rt:148:9
+returns-2 : tie.Need-returns-2
+unfolding recordOf
+returns-2 c = simp (le-leb _ _ (c .before .if1 .left), lt-leb _ _ (c .if2 .taken))
+
+-- src/lib.rt:150:6
+allowed-in-requires : tie.Need-allowed-in-requires
+allowed-in-requires c κs = search needs
+
+-- src/lib.rt:150:6
 shr-result : tie.Need-shr-result
 shr-result c = search needs
 
-returns-2 : tie.Need-returns-2
-returns-2 c = allowedBelow12 _ _ (c .before .if1 .left) (c .if2 .taken)
-
-shr-both : tie.Need-shr-both
-shr-both c = search needs
-
-both-requires : tie.Need-both-requires
-both-requires c κs = search needs
-
+-- src/lib.rt:141:1
 returns-3 : tie.Need-returns-3
-returns-3 c = c .both .ensures ∙ allowedFrom12 _ _ (c .before .before .if1 .left) (c .before .if2 .left)
+returns-3 c = rw (c .allowed-in .ensures) (allowedListed _ _ (c .before .before .if1 .left) (c .before .if2 .left))
 
 pub allowed-spec : {M : Type 1} → statement M
-allowed-spec = tie.close (tie.spec returns shr-result returns-2 shr-both both-requires returns-3)
+allowed-spec = tie.close (tie.spec returns returns-2 allowed-in-requires shr-result returns-3)
