@@ -13,7 +13,7 @@ use Rattle.circuit.specs.Every.{left, right, both, isTrue}
 use Rattle.layout.specs.declared.Stored.{Stored}
 use Rattle.layout.specs.Layout.{recordsIn, stateAt, flagsAt, rankAt, allowed, allowedAt, stored, storedAt, storedIn}
 use Rattle.select.specs.declared.Selected.{Selected}
-use Rattle.select.specs.First.{first, some, best, firstAt, firstSame, someAt, noneOf, Best, Order, theBest, starts, takes, stays, withLast}
+use Rattle.select.specs.First.{first, some, best, firstAt, firstSame, someAt, noneOf, noneAt, Best, Order, theBest, starts, takes, stays, withLast}
 use Rattle.select.specs.Selection.{refused, taken, free, ours, theirs, earlier, later, stops, looked, choice, bad, selectIn}
 
 -- a bad record from one on
@@ -28,10 +28,7 @@ before own a b = cond own (ltb a b) (ltb b a)
 abbrev better : (own none : Bool) → (rank best : ℕ) → Bool
 better own none rank best = none || before own rank best
 
--- where the search stops, and where it has looked at n records
-abbrev pub stopped : List ℕ → (cic looked n : ℕ) → Selected
-stopped table cic looked n = cond (some n (badFrom table looked)) (refused 12) (taken cic looked)
-
+-- where it has looked at n records and found none of ours
 abbrev pub concluded : (theirs n : ℕ) → Selected
 concluded theirs n = cond (eqb theirs n) (refused 14) (taken theirs n)
 
@@ -83,13 +80,6 @@ module _ (table : List ℕ) (from : ℕ) where
   pub goodEnd : {i n : ℕ} → GoodFrom table from i → n ≤ i → true ≡ not (some n (badFrom table from))
   goodEnd {i} {n} g h =
       rw (noneOf n (badFrom table from) (λ j l t. g .good j (leb-true from j (isTrue _ (left (leb from j) _ t))) (omega arith) (right (leb from j) _ t)))
-
-module _ (table : List ℕ) (cic looked n : ℕ) {b : Bool} (e : b ≡ not (some n (badFrom table looked))) where
-  pub stopGood : b ≡ true → taken cic looked ≡ stopped table cic looked n
-  stopGood d = rw (not-true (some n (badFrom table looked)) (sym e ∙ d))
-
-  pub stopBad : b ≡ false → refused 12 ≡ stopped table cic looked n
-  stopBad d = rw (not-false (some n (badFrom table looked)) (sym e ∙ d))
 
 -- by rank, and of equal ranks by number
 abbrev ahead : (lt : ℕ → ℕ → Bool) → (a b i j : ℕ) → Bool
@@ -268,6 +258,13 @@ isFalse false n = refl
 next : (n : ℕ) → n + 1 ≡ suc n
 next n = omega arith
 
+pub goodAt : (table : List ℕ) (i n : ℕ) → some n (bad table) ≡ false → i < n → allowedAt table i ≡ true
+goodAt table i n e h = go (allowedAt table i) (noneAt n (bad table) e i h)
+  where
+    go : (b : Bool) → (T (not b) → ⊥) → b ≡ true
+    go true d = refl
+    go false d = absurd (d tt)
+
 module _ (mine : ℕ → Bool) (table : List ℕ) where
   pub scanStart : (n : ℕ) → Scanned mine table n 0 n 0 n 0
   scanStart n =
@@ -378,15 +375,15 @@ module _ (mine : ℕ → Bool) (table : List ℕ) where
         go false d = sym (choiceTheirs n t (s .ours .none none) (s .theirs none .best (eqb-false t n d)))
         go true d = sym (choiceNone n (s .ours .none none) (s .theirs none .none (eqb-true t n d)))
 
-    pub scanEndOurs : (o ≡ n → ⊥) → taken o n ≡ searched mine table n
-    scanEndOurs some = rw (noneOf n (bad table) (s .good)) (sym (choiceOurs n o n (s .ours .best some) (rw (noneOf n (stops mine table) (s .on)))))
+    pub scanEndOurs : (o ≡ n → ⊥) → taken o n ≡ choice mine table n
+    scanEndOurs some = sym (choiceOurs n o n (s .ours .best some) (rw (noneOf n (stops mine table) (s .on))))
 
-  -- one of ours with rank 0
-  module _ {n i o p t q : ℕ} (s : Scanned mine table n i o p t q) (h : i < n) (ok : allowedAt table i ≡ true) (is : free (stateAt table i) (flagsAt table i) ≡ true) (c : mine i ≡ true) (unused : rankAt table i ≡ 0) where
-    here : T (stops mine table i)
-    here = rw (is, c, unused) tt
+  -- where no record is bad
+  pub allGood : (n : ℕ) → some n (bad table) ≡ false → choice mine table n ≡ searched mine table n
+  allGood n e = rw e
 
-    -- the records judged so far are not judged again
+  -- one of ours is found: the records behind it are judged
+  module _ {n i o p t q : ℕ} (s : Scanned mine table n i o p t q) (ok : allowedAt table i ≡ true) where
     behind : some n (badFrom table (i + 1)) ≡ some n (bad table)
     behind = ap (λ (k : ℕ). ltb k n) (firstSame n (badFrom table (i + 1)) (bad table) (λ j l. go j (leb (i + 1) j) refl))
       where
@@ -396,9 +393,18 @@ module _ (mine : ℕ → Bool) (table : List ℕ) where
             let l : j < i + 1 = leb-false _ _ e in
             sym (isFalse (bad table j) (withLast i (λ j. T (bad table j) → ⊥) (s .good) (λ x. rw ok at x) j (omega arith)))
 
-    pub scanStop : stopped table i (i + 1) n ≡ searched mine table n
+    module _ {b : Bool} (e : b ≡ not (some n (badFrom table (i + 1)))) where
+      pub noneBehind : b ≡ true → some n (bad table) ≡ false
+      noneBehind d = sym behind ∙ not-true (some n (badFrom table (i + 1))) (sym e ∙ d)
+
+      pub badBehind : b ≡ false → refused 12 ≡ searched mine table n
+      badBehind d = rw (sym behind ∙ not-false (some n (badFrom table (i + 1))) (sym e ∙ d))
+
+  -- one of ours with rank 0
+  module _ {n i o p t q : ℕ} (s : Scanned mine table n i o p t q) (h : i < n) (is : free (stateAt table i) (flagsAt table i) ≡ true) (c : mine i ≡ true) (unused : rankAt table i ≡ 0) where
+    here : T (stops mine table i)
+    here = rw (is, c, unused) tt
+
+    pub scanStop : taken i (i + 1) ≡ choice mine table n
     scanStop =
-        rw (
-          behind,
-          choiceOurs n i (i + 1) (firstUnused mine table n i h here (s .on)) (rw (someAt n (stops mine table) i h here, firstAt n (stops mine table) i h here (s .on))),
-        )
+        sym (choiceOurs n i (i + 1) (firstUnused mine table n i h here (s .on)) (rw (someAt n (stops mine table) i h here, firstAt n (stops mine table) i h here (s .on))))

@@ -3,14 +3,14 @@ use circuit::Cic;
 use circuit::PointCode;
 use layout::Stored;
 ghost use mathlib.Core.Path.{_≡_};
-ghost use mathlib.Core.Bool.{not};
+ghost use mathlib.Core.Bool.{false, not};
 ghost use Prim.Native.Nat.{_<_, _≤_};
 ghost use lib.ListN.{length};
 ghost use Rattle.layout.specs.Layout.{recordsIn};
 ghost use Rattle.circuit.specs.Groups.{lowest, byParity};
 ghost use Rattle.select.specs.First.{some};
-ghost use Rattle.select.specs.Selection.{refused, taken, free, selectIn};
-ghost use Rattle.select.specs.Search.{badFrom, stopped, concluded, searched, Scanned};
+ghost use Rattle.select.specs.Selection.{refused, taken, free, bad, choice, selectIn};
+ghost use Rattle.select.specs.Search.{badFrom, concluded, searched, Scanned};
 
 // What selection answers: the refusal's number, 0 where there is none; the circuit; how many records were looked at.
 pub struct Selected {
@@ -68,40 +68,25 @@ fn allowed_from(table: &[u8], from: u32, records: u32) -> bool
     true
 }
 
-// The search stopped at a circuit; the records behind it are judged all the same.
-fn stop(table: &[u8], cic: u32, looked: u32, records: u32) -> Selected
-    requires { ⌜ records ≤ recordsIn (length (now table)) ⌝ }
-    ensures { λ r. ⌜ r ≡ stopped (now (table .entry)) cic looked records ⌝ }
-{
-    if allowed_from(table, looked, records) {
-        taken(cic, looked)
-    } else {
-        refused(12)
-    }
-}
-
-// The records from one on, where circuit `best` with its rank is the best of ours before them: theirs are passed over.
+// The records from one on, all of them allowed, where circuit `best` with its rank is the best of ours before them: theirs are passed over.
 fn ours_from(first: u32, table: &[u8], from: u32, best: u32, rank: u64, records: u32) -> Selected
-    requires { ⌜ records ≤ recordsIn (length (now table)) ⌝ }
-    requires { ⌜ (from ≤ records) × (best < records) ⌝ }
+    requires { ⌜ (records ≤ recordsIn (length (now table))) × (from ≤ records) × (best < records) ⌝ }
+    requires { ⌜ some records (bad (now table)) ≡ false ⌝ }
     requires { ⌜ Scanned (byParity first) (now table) records from best rank records 0 ⌝ }
-    ensures { λ r. ⌜ r ≡ searched (byParity first) (now (table .entry)) records ⌝ }
+    ensures { λ r. ⌜ r ≡ choice (byParity first) (now (table .entry)) records ⌝ }
 {
     let mut chosen = best;
     let mut lowest = rank;
     for i in from..records {
-        let at = layout::stored_at(table, Cic(i));
-        if !layout::allowed(at.state, at.flags) {
-            return refused(12);
-        }
         if i % 2 != first {
             continue;
         }
+        let at = layout::stored_at(table, Cic(i));
         if !free(at) {
             continue;
         }
         if at.rank == 0 {
-            return stop(table, i, i + 1, records);
+            return taken(i, i + 1);
         }
         if at.rank < lowest {
             chosen = i;
@@ -122,7 +107,8 @@ fn conclude(theirs: u32, records: u32) -> Selected
     }
 }
 
-// Judges each record and looks at it, where ours are the circuits of one parity, and stops at one of our own with rank 0: none can have been released before it.
+// Judges each record and looks at it, where ours are the circuits of one parity. Once one of ours is found, the other records are judged and theirs
+// are passed over. It stops at one of ours with rank 0: none can have been released before it.
 fn search(first: u32, table: &[u8], records: u32) -> Selected
     requires { ⌜ records ≤ recordsIn (length (now table)) ⌝ }
     ensures { λ r. ⌜ r ≡ searched (byParity first) (now (table .entry)) records ⌝ }
@@ -138,8 +124,11 @@ fn search(first: u32, table: &[u8], records: u32) -> Selected
             continue;
         }
         if i % 2 == first {
+            if !allowed_from(table, i + 1, records) {
+                return refused(12);
+            }
             if at.rank == 0 {
-                return stop(table, i, i + 1, records);
+                return taken(i, i + 1);
             }
             return ours_from(first, table, i + 1, i, at.rank, records);
         }
@@ -151,7 +140,7 @@ fn search(first: u32, table: &[u8], records: u32) -> Selected
     conclude(theirs, records)
 }
 
-// The circuit to seize in the group with these codes and this table. Each record is read once.
+// The circuit to seize in the group with these codes and this table: each record is judged once, and looked at at most once.
 pub fn select(own: PointCode, far: PointCode, table: &[u8]) -> Selected
     ensures { λ r. ⌜ r ≡ selectIn (own .0) (far .0) (now (table .entry)) ⌝ }
 {

@@ -1,4 +1,4 @@
--- `select::ours_from` meets its contract: the best of ours so far is held, and no bad record was met.
+-- `select::ours_from` meets its contract: the best of ours so far is held.
 -- Assumes nothing.
 use Prim.Native.Nat.{_-_, _<_, _≤_}
 use native.Mathlib.Omega.{arith}
@@ -7,7 +7,7 @@ use mathlib.Core.Logic.{⊎-elim}
 use borrow.Author.Tests.{not-true, not-false, eq-eqb, ne-eqb}
 use borrow.Author.Needs.{needs}
 use Rattle.circuit.specs.Groups.{byParity}
-use Rattle.select.specs.Search.{judged, freeAt, rankIs, Scanned, scanBusy, scanOver, scanOurs, scanOursStay, scanBad, scanStop, scanEndOurs}
+use Rattle.select.specs.Search.{freeAt, rankIs, Scanned, scanBusy, scanOver, scanOurs, scanOursStay, scanStop, scanEndOurs, goodAt}
 use Rattle.select.proofs.ours_from.Statement.{statement}
 use Rattle.select.proofs.ours_from.Tie as tie
 
@@ -19,22 +19,7 @@ abbrev μ-loop : tie.MeasureT-loop
 μ-loop first table from best rank records chosen₀ lowest₀ i₀ chosen lowest i = records - i
 
 loop-holds : tie.Need-loop-holds Inv-loop μ-loop
-loop-holds c = let p = c .before .pre in (p .1 .0 .0, p .1 .0 .1, p .1 .1)
-
-stored-at-requires : tie.Need-stored-at-requires Inv-loop μ-loop
-stored-at-requires c κs = search needs
-
-allowed-requires : tie.Need-allowed-requires Inv-loop μ-loop
-allowed-requires c κs = search needs
-
-refused-requires : tie.Need-refused-requires Inv-loop μ-loop
-refused-requires c κs = search needs
-
-returns : tie.Need-returns Inv-loop μ-loop
-returns c =
-    let a = c .before .before in let r = a .before in let l = r .before in
-    let all = l .before .before .before .pre .0 in let h = l .loop-test .taken in
-    c .refused .ensures ∙ scanBad _ _ _ _ h (judged _ _ _ all h (r .stored-at .ensures) (a .allowed .ensures) ∙ not-true _ (c .before .if1 .taken))
+loop-holds c = let p = c .before .pre in (p .0 .1, p .0 .2, p .1 .1)
 
 add-i : tie.Need-add-i Inv-loop μ-loop
 add-i c = search needs
@@ -45,13 +30,11 @@ loop-less c = search needs
 -- one of theirs
 loop-again : tie.Need-loop-again Inv-loop μ-loop
 loop-again c =
-    let k = c .before in let a = k .before in let r = a .before in let l = r .before in
-    let all = l .before .before .before .pre .0 in let h = l .loop-test .taken in let i = l .before .loop .inv in (
-      search needs,
-      i .1,
-      scanOver _ _ (i .2) h (judged _ _ _ all h (r .stored-at .ensures) (a .allowed .ensures) ∙ not-false _ (k .if1 .left))
-          (ne-eqb _ _ (c .if2 .taken)) (λ d. omega (arith, i .1, d)),
-    )
+    let l = c .before in let p = l .before .before .before .pre in let h = l .loop-test .taken in let i = l .before .loop .inv in
+    (search needs, i .1, scanOver _ _ (i .2) h (goodAt _ _ _ (p .1 .0) h) (ne-eqb _ _ (c .if1 .taken)) (λ d. omega (arith, i .1, d)))
+
+stored-at-requires : tie.Need-stored-at-requires Inv-loop μ-loop
+stored-at-requires c κs = search needs
 
 free-requires : tie.Need-free-requires Inv-loop μ-loop
 free-requires c κs = search needs
@@ -65,28 +48,27 @@ loop-less-2 c = search needs
 -- one of ours that does not qualify
 loop-again-2 : tie.Need-loop-again-2 Inv-loop μ-loop
 loop-again-2 c =
-    let f = c .before in let k = f .before .before in let a = k .before in let r = a .before in let l = r .before in
-    let all = l .before .before .before .pre .0 in let h = l .loop-test .taken in let e = r .stored-at .ensures in let i = l .before .loop .inv in (
+    let f = c .before in let r = f .before in let l = r .before .before in
+    let p = l .before .before .before .pre in let h = l .loop-test .taken in let i = l .before .loop .inv in (
       search needs,
       i .1,
-      scanBusy _ _ (i .2) h (judged _ _ _ all h e (a .allowed .ensures) ∙ not-false _ (k .if1 .left)) (freeAt _ _ _ all h e (f .free .ensures) ∙ not-true _ (c .if3 .taken)),
+      scanBusy _ _ (i .2) h (goodAt _ _ _ (p .1 .0) h) (freeAt _ _ _ (p .0 .0) h (r .stored-at .ensures) (f .free .ensures) ∙ not-true _ (c .if2 .taken)),
     )
 
-add-stop : tie.Need-add-stop Inv-loop μ-loop
-add-stop c = search needs
+add-taken : tie.Need-add-taken Inv-loop μ-loop
+add-taken c = search needs
 
-stop-requires : tie.Need-stop-requires Inv-loop μ-loop
-stop-requires c κs = search needs
+taken-requires : tie.Need-taken-requires Inv-loop μ-loop
+taken-requires c κs = search needs
 
 -- one with rank 0
-returns-2 : tie.Need-returns-2 Inv-loop μ-loop
-returns-2 c =
-    let z = c .before in let f = z .before .before .before in let k = f .before .before in let a = k .before in let r = a .before in let l = r .before in
-    let all = l .before .before .before .pre .0 in let h = l .loop-test .taken in let e = r .stored-at .ensures in
-    c .stop .ensures
-    ∙ scanStop _ _ (l .before .loop .inv .2) h (judged _ _ _ all h e (a .allowed .ensures) ∙ not-false _ (k .if1 .left))
-    (freeAt _ _ _ all h e (f .free .ensures) ∙ not-false _ (z .before .before .if3 .left))
-    (eq-eqb _ _ (f .before .if2 .left)) (sym (rankIs _ _ _ all h e) ∙ z .if4 .taken)
+returns : tie.Need-returns Inv-loop μ-loop
+returns c =
+    let z = c .before in let f = z .before .before .before in let r = f .before in let l = r .before .before in
+    let p = l .before .before .before .pre in let h = l .loop-test .taken in let e = r .stored-at .ensures in
+    c .taken .ensures
+    ∙ scanStop _ _ (l .before .loop .inv .2) h (freeAt _ _ _ (p .0 .0) h e (f .free .ensures) ∙ not-false _ (z .before .before .if2 .left))
+    (eq-eqb _ _ (r .before .if1 .left)) (sym (rankIs _ _ _ (p .0 .0) h e) ∙ z .if3 .taken)
 
 add-i-3 : tie.Need-add-i-3 Inv-loop μ-loop
 add-i-3 c = search needs
@@ -97,25 +79,26 @@ loop-less-3 c = search needs
 -- one that is the best so far, or is not
 loop-again-3 : tie.Need-loop-again-3 Inv-loop μ-loop
 loop-again-3 c =
-    let z = c .before .before in let f = z .before .before .before in let k = f .before .before in let a = k .before in let r = a .before in let l = r .before in
-    let all = l .before .before .before .pre .0 in let h = l .loop-test .taken in let e = r .stored-at .ensures in let i = l .before .loop .inv in
-    let ok = judged _ _ _ all h e (a .allowed .ensures) ∙ not-false _ (k .if1 .left) in
-    let is = freeAt _ _ _ all h e (f .free .ensures) ∙ not-false _ (z .before .before .if3 .left) in
-    let con = eq-eqb _ _ (f .before .if2 .left) in (
+    let z = c .before .before in let f = z .before .before .before in let r = f .before in let l = r .before .before in
+    let p = l .before .before .before .pre in let h = l .loop-test .taken in let e = r .stored-at .ensures in let i = l .before .loop .inv in
+    let ok = goodAt _ _ _ (p .1 .0) h in
+    let is = freeAt _ _ _ (p .0 .0) h e (f .free .ensures) ∙ not-false _ (z .before .before .if2 .left) in
+    let rank = rankIs _ _ _ (p .0 .0) h e in
+    let con = eq-eqb _ _ (r .before .if1 .left) in (
       search needs,
-      ⊎-elim (λ w. rw (w .1) h) (λ w. rw (w .1) (i .1)) (c .if5 .came),
-      ⊎-elim (λ w. rw (w .1, w .2) (scanOurs _ _ (i .2) h ok is _ (rankIs _ _ _ all h e) con (z .if4 .left) (λ d. omega (arith, i .1, d)) (w .0 .taken)))
-          (λ w. rw (w .1, w .2) (scanOursStay _ _ (i .2) h ok is _ (rankIs _ _ _ all h e) con (z .if4 .left) (λ d. omega (arith, i .1, d)) (w .0 .left))) (c .if5 .came),
+      ⊎-elim (λ w. rw (w .1) h) (λ w. rw (w .1) (i .1)) (c .if4 .came),
+      ⊎-elim (λ w. rw (w .1, w .2) (scanOurs _ _ (i .2) h ok is _ rank con (z .if3 .left) (λ d. omega (arith, i .1, d)) (w .0 .taken)))
+          (λ w. rw (w .1, w .2) (scanOursStay _ _ (i .2) h ok is _ rank con (z .if3 .left) (λ d. omega (arith, i .1, d)) (w .0 .left))) (c .if4 .came),
     )
 
-taken-requires : tie.Need-taken-requires Inv-loop μ-loop
-taken-requires c κs = search needs
+taken-requires-2 : tie.Need-taken-requires-2 Inv-loop μ-loop
+taken-requires-2 c κs = search needs
 
-returns-3 : tie.Need-returns-3 Inv-loop μ-loop
-returns-3 c =
+returns-2 : tie.Need-returns-2 Inv-loop μ-loop
+returns-2 c =
     let l = c .before .before in
     let all : l .loop .i ≡ l .before .before .args .records = omega (arith, c .before .loop-test .left, l .loop .inv .0) in
-    c .taken .ensures ∙ scanEndOurs _ _ (rw all at (l .loop .inv .2)) (λ d. omega (arith, l .loop .inv .1, d))
+    c .taken2 .ensures ∙ scanEndOurs _ _ (rw all at (l .loop .inv .2)) (λ d. omega (arith, l .loop .inv .1, d))
 
 pub ours-from-spec : {M : Type 1} → statement M
 ours-from-spec =
@@ -124,22 +107,19 @@ ours-from-spec =
     Inv-loop
     μ-loop
     loop-holds
-    stored-at-requires
-    allowed-requires
-    refused-requires
-    returns
     add-i
     loop-less
     loop-again
+    stored-at-requires
     free-requires
     add-i-2
     loop-less-2
     loop-again-2
-    add-stop
-    stop-requires
-    returns-2
+    add-taken
+    taken-requires
+    returns
     add-i-3
     loop-less-3
     loop-again-3
-    taken-requires
-    returns-3)
+    taken-requires-2
+    returns-2)

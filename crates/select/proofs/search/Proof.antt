@@ -1,4 +1,4 @@
--- `select::search` meets its contract.
+-- `select::search` meets its contract: none of ours was found so far, the best of theirs is held, and no bad record was met.
 -- Assumes nothing.
 use Prim.Native.Nat.{_-_, _≤_}
 use native.Mathlib.Omega.{arith}
@@ -7,7 +7,7 @@ use mathlib.Core.Logic.{⊎-elim}
 use borrow.Author.Tests.{not-true, not-false, eq-eqb, ne-eqb}
 use borrow.Author.Needs.{needs}
 use Rattle.circuit.specs.Groups.{byParity}
-use Rattle.select.specs.Search.{judged, freeAt, rankIs, Scanned, scanStart, scanBusy, scanTheirs, scanTheirsStay, scanFirst, scanBad, scanStop, scanEnd}
+use Rattle.select.specs.Search.{judged, freeAt, rankIs, Scanned, scanStart, scanBusy, scanTheirs, scanTheirsStay, scanFirst, scanBad, scanStop, scanEnd, allGood, noneBehind, badBehind}
 use Rattle.select.proofs.search.Statement.{statement}
 use Rattle.select.proofs.search.Tie as tie
 
@@ -30,11 +30,12 @@ allowed-requires c κs = search needs
 refused-requires : tie.Need-refused-requires Inv-loop μ-loop
 refused-requires c κs = search needs
 
+-- a bad record
 returns : tie.Need-returns Inv-loop μ-loop
 returns c =
-    let a = c .before .before in let r = a .before in let l = r .before in
-    let all = l .before .before .before .pre in let h = l .loop-test .taken in let e = r .stored-at .ensures in let i = l .before .loop .inv in
-    c .refused .ensures ∙ scanBad _ _ _ _ h (judged _ _ _ all h e (a .allowed .ensures) ∙ not-true _ (c .before .if1 .taken))
+    let a = c .before .before in let r = a .before in let l = r .before in let h = l .loop-test .taken in
+    c .refused .ensures
+    ∙ scanBad _ _ _ _ h (judged _ _ _ (l .before .before .before .pre) h (r .stored-at .ensures) (a .allowed .ensures) ∙ not-true _ (c .before .if1 .taken))
 
 free-requires : tie.Need-free-requires Inv-loop μ-loop
 free-requires c κs = search needs
@@ -45,41 +46,72 @@ add-i c = search needs
 loop-less : tie.Need-loop-less Inv-loop μ-loop
 loop-less c = search needs
 
+-- one that does not qualify
 loop-again : tie.Need-loop-again Inv-loop μ-loop
 loop-again c =
     let f = c .before in let a = f .before .before in let r = a .before in let l = r .before in
-    let all = l .before .before .before .pre in let h = l .loop-test .taken in let e = r .stored-at .ensures in let i = l .before .loop .inv in
-    let ok = judged _ _ _ all h e (a .allowed .ensures) ∙ not-false _ (f .before .if1 .left) in
-    (search needs, scanBusy _ _ (i .1) h ok (freeAt _ _ _ all h e (f .free .ensures) ∙ not-true _ (c .if2 .taken)))
+    let all = l .before .before .before .pre in let h = l .loop-test .taken in let e = r .stored-at .ensures in (
+      search needs,
+      scanBusy _ _ (l .before .loop .inv .1) h (judged _ _ _ all h e (a .allowed .ensures) ∙ not-false _ (f .before .if1 .left))
+          (freeAt _ _ _ all h e (f .free .ensures) ∙ not-true _ (c .if2 .taken)),
+    )
 
-add-stop : tie.Need-add-stop Inv-loop μ-loop
-add-stop c = search needs
+add-allowed-from : tie.Need-add-allowed-from Inv-loop μ-loop
+add-allowed-from c = search needs
 
-stop-requires : tie.Need-stop-requires Inv-loop μ-loop
-stop-requires c κs = search needs
+allowed-from-requires : tie.Need-allowed-from-requires Inv-loop μ-loop
+allowed-from-requires c κs = search needs
 
+refused-requires-2 : tie.Need-refused-requires-2 Inv-loop μ-loop
+refused-requires-2 c κs = search needs
+
+-- one of ours, and a bad record behind it
 returns-2 : tie.Need-returns-2 Inv-loop μ-loop
 returns-2 c =
-    let z = c .before in let k = z .before .before .before in let f = k .before in let a = f .before .before in let r = a .before in let l = r .before in
-    let all = l .before .before .before .pre in let h = l .loop-test .taken in let e = r .stored-at .ensures in let i = l .before .loop .inv in
+    let b = c .before .before in let f = b .before .before .before in let a = f .before .before in let r = a .before in let l = r .before in
+    let all = l .before .before .before .pre in let h = l .loop-test .taken in
+    c .refused2 .ensures
+    ∙ badBehind _ _ (l .before .loop .inv .1) (judged _ _ _ all h (r .stored-at .ensures) (a .allowed .ensures) ∙ not-false _ (f .before .if1 .left))
+    (b .allowed-from .ensures) (not-true _ (c .before .if4 .taken))
+
+add-taken : tie.Need-add-taken Inv-loop μ-loop
+add-taken c = search needs
+
+taken-requires : tie.Need-taken-requires Inv-loop μ-loop
+taken-requires c κs = search needs
+
+-- one of ours with rank 0
+returns-3 : tie.Need-returns-3 Inv-loop μ-loop
+returns-3 c =
+    let z = c .before in let n = z .before .before in let b = n .before in let f = b .before .before .before in let a = f .before .before in let r = a .before in let l = r .before in
+    let all = l .before .before .before .pre in let h = l .loop-test .taken in let e = r .stored-at .ensures in let s = l .before .loop .inv .1 in
     let ok = judged _ _ _ all h e (a .allowed .ensures) ∙ not-false _ (f .before .if1 .left) in
-    let is = freeAt _ _ _ all h e (f .free .ensures) ∙ not-false _ (k .if2 .left) in
-    c .stop .ensures
-    ∙ scanStop _ _ (i .1) h ok is (eq-eqb _ _ (z .before .before .if3 .taken)) (sym (rankIs _ _ _ all h e) ∙ z .if4 .taken)
+    c .taken .ensures
+    ∙ scanStop _ _ s h (freeAt _ _ _ all h e (f .free .ensures) ∙ not-false _ (b .before .before .if2 .left)) (eq-eqb _ _ (b .before .if3 .taken)) (sym (rankIs _ _ _ all h e) ∙ z .if5 .taken)
+    ∙ allGood _ _ _ (noneBehind _ _ s ok (b .allowed-from .ensures) (not-false _ (n .if4 .left)))
 
 add-ours-from : tie.Need-add-ours-from Inv-loop μ-loop
 add-ours-from c = search needs
 
 ours-from-requires : tie.Need-ours-from-requires Inv-loop μ-loop
 ours-from-requires c κs =
-    let k = c .before .before .before in let f = k .before in let a = f .before .before in let r = a .before in let l = r .before in
-    let all = l .before .before .before .pre in let h = l .loop-test .taken in let e = r .stored-at .ensures in let i = l .before .loop .inv in
-    let ok = judged _ _ _ all h e (a .allowed .ensures) ∙ not-false _ (f .before .if1 .left) in
-    let is = freeAt _ _ _ all h e (f .free .ensures) ∙ not-false _ (k .if2 .left) in
-    (all, ((search needs, h), scanFirst _ _ (i .1) h ok is _ (rankIs _ _ _ all h e) (eq-eqb _ _ (c .before .before .if3 .taken)) (c .if4 .left) refl))
+    let n = c .before .before in let b = n .before in let f = b .before .before .before in let a = f .before .before in let r = a .before in let l = r .before in
+    let all = l .before .before .before .pre in let h = l .loop-test .taken in let e = r .stored-at .ensures in let s = l .before .loop .inv .1 in
+    let ok = judged _ _ _ all h e (a .allowed .ensures) ∙ not-false _ (f .before .if1 .left) in (
+      (all, search needs, h),
+      (
+        noneBehind _ _ s ok (b .allowed-from .ensures) (not-false _ (n .if4 .left)),
+        scanFirst _ _ s h ok (freeAt _ _ _ all h e (f .free .ensures) ∙ not-false _ (b .before .before .if2 .left)) _ (rankIs _ _ _ all h e) (eq-eqb _ _ (b .before .if3 .taken)) (c .if5 .left) refl,
+      ),
+    )
 
-returns-3 : tie.Need-returns-3 Inv-loop μ-loop
-returns-3 c = c .ours-from .ensures
+-- another one of ours
+returns-4 : tie.Need-returns-4 Inv-loop μ-loop
+returns-4 c =
+    let n = c .before .before .before in let b = n .before in let f = b .before .before .before in let a = f .before .before in let r = a .before in let l = r .before in
+    let all = l .before .before .before .pre in let h = l .loop-test .taken in
+    let ok = judged _ _ _ all h (r .stored-at .ensures) (a .allowed .ensures) ∙ not-false _ (f .before .if1 .left) in
+    c .ours-from .ensures ∙ allGood _ _ _ (noneBehind _ _ (l .before .loop .inv .1) ok (b .allowed-from .ensures) (not-false _ (n .if4 .left)))
 
 either-requires : tie.Need-either-requires Inv-loop μ-loop
 either-requires c κs = search needs
@@ -90,23 +122,24 @@ add-i-2 c = search needs
 loop-less-2 : tie.Need-loop-less-2 Inv-loop μ-loop
 loop-less-2 c = search needs
 
+-- one of theirs, which is the best so far or is not
 loop-again-2 : tie.Need-loop-again-2 Inv-loop μ-loop
 loop-again-2 c =
-    let b = c .before in let k = b .before .before .before in let f = k .before in let a = f .before .before in let r = a .before in let l = r .before in
-    let all = l .before .before .before .pre in let h = l .loop-test .taken in let e = r .stored-at .ensures in let i = l .before .loop .inv in
+    let b = c .before in let o = b .before .before in let f = o .before .before in let a = f .before .before in let r = a .before in let l = r .before in
+    let all = l .before .before .before .pre in let h = l .loop-test .taken in let e = r .stored-at .ensures in let s = l .before .loop .inv .1 in
     let ok = judged _ _ _ all h e (a .allowed .ensures) ∙ not-false _ (f .before .if1 .left) in
-    let is = freeAt _ _ _ all h e (f .free .ensures) ∙ not-false _ (k .if2 .left) in
-    let con = ne-eqb _ _ (b .before .before .if3 .left) in (
+    let is = freeAt _ _ _ all h e (f .free .ensures) ∙ not-false _ (o .before .if2 .left) in
+    let con = ne-eqb _ _ (o .if3 .left) in (
       search needs,
-      ⊎-elim (λ w. rw (w .1, w .2) (scanTheirs _ _ (i .1) h ok is _ (rankIs _ _ _ all h e) con refl (sym (b .either .ensures) ∙ w .0 .taken)))
-          (λ w. rw (w .1, w .2) (scanTheirsStay _ _ (i .1) h ok is _ (rankIs _ _ _ all h e) con refl (sym (b .either .ensures) ∙ w .0 .left))) (c .if5 .came),
+      ⊎-elim (λ w. rw (w .1, w .2) (scanTheirs _ _ s h ok is _ (rankIs _ _ _ all h e) con refl (sym (b .either .ensures) ∙ w .0 .taken)))
+          (λ w. rw (w .1, w .2) (scanTheirsStay _ _ s h ok is _ (rankIs _ _ _ all h e) con refl (sym (b .either .ensures) ∙ w .0 .left))) (c .if6 .came),
     )
 
 conclude-requires : tie.Need-conclude-requires Inv-loop μ-loop
 conclude-requires c κs = search needs
 
-returns-4 : tie.Need-returns-4 Inv-loop μ-loop
-returns-4 c =
+returns-5 : tie.Need-returns-5 Inv-loop μ-loop
+returns-5 c =
     let l = c .before .before in
     let all : l .loop .i ≡ l .before .before .args .records = omega (arith, c .before .loop-test .left, l .loop .inv .0) in
     c .conclude .ensures ∙ scanEnd _ _ (rw all at (l .loop .inv .1)) refl
@@ -126,15 +159,19 @@ search-spec =
     add-i
     loop-less
     loop-again
-    add-stop
-    stop-requires
+    add-allowed-from
+    allowed-from-requires
+    refused-requires-2
     returns-2
+    add-taken
+    taken-requires
+    returns-3
     add-ours-from
     ours-from-requires
-    returns-3
+    returns-4
     either-requires
     add-i-2
     loop-less-2
     loop-again-2
     conclude-requires
-    returns-4)
+    returns-5)
