@@ -3,12 +3,12 @@
 use mathlib.Core.Path.{_≡_, refl, sym, ap, _∙_, subst}
 use mathlib.Core.Bool.{Bool, true, false, not, cond, _&&_, _||_}
 use mathlib.Core.List.{List}
-use Prim.Native.Nat.{ℕ, suc, _+_, _<_, _≤_}
+use Prim.Native.Nat.{ℕ, suc, _+_, _%_, _<_, _≤_}
 use native.Mathlib.Omega.{arith}
 use lib.Dec.{T, eqb, leb, ltb, not-T}
 use borrow.Author.Tests.{not-true, not-false, eqb-true, eqb-false, eq-eqb, ne-eqb, leb-true, leb-false, le-leb, lt-leb, ltb-true, ltb-false, lt-ltb, le-ltb}
 use lib.ListN.{length}
-use Rattle.circuit.specs.Groups.{badGroup, controls}
+use Rattle.circuit.specs.Groups.{badGroup, byParity, controls}
 use Rattle.circuit.specs.Every.{left, right, both, isTrue}
 use Rattle.layout.specs.declared.Stored.{Stored}
 use Rattle.layout.specs.Layout.{recordsIn, stateAt, flagsAt, rankAt, allowed, allowedAt, stored, storedAt, storedIn}
@@ -244,6 +244,68 @@ module _ (own : Bool) (table : List ℕ) (among : ℕ → Bool) (n : ℕ) where
                 rank = h .rank;
               }
 
+-- once one of ours is found, after i records: o with rank p is the best of ours, and none stops the search
+pub record Led (mine : ℕ → Bool) (table : List ℕ) (i o p : ℕ) : Type 0 where
+  pub best : Best (ours mine table) (goes true table) i o
+  pub rank : p ≡ rankAt table o
+  pub on : (j : ℕ) → j < i → T (stops mine table j) → ⊥
+
+module _ (mine : ℕ → Bool) (table : List ℕ) {i o p : ℕ} (l : Led mine table i o p) where
+  past : (T (ours mine table i) → ⊥) → Led mine table (suc i) o p
+  past none =
+      record {
+        best = stays (order true table) (l .best) (λ t. absurd (none t));
+        rank = l .rank;
+        on = withLast i (λ j. T (stops mine table j) → ⊥) (l .on) (λ t. none (left (ours mine table i) _ t));
+      }
+
+  -- one of theirs
+  pub ledTheirs : mine i ≡ false → Led mine table (suc i) o p
+  ledTheirs e = past (λ t. subst T e (right (free (stateAt table i) (flagsAt table i)) (mine i) t))
+
+  -- one of ours that does not qualify
+  pub ledBusy : free (stateAt table i) (flagsAt table i) ≡ false → Led mine table (suc i) o p
+  ledBusy e = past (λ t. subst T e (left (free (stateAt table i) (flagsAt table i)) (mine i) t))
+
+  -- one that does
+  module _ (is : free (stateAt table i) (flagsAt table i) ≡ true) (e : mine i ≡ true) (rank : ℕ) (r : rank ≡ rankAt table i) (used : rank ≡ 0 → ⊥) where
+    among : T (ours mine table i)
+    among = rw (is, e) tt
+
+    goesOn : (j : ℕ) → j < suc i → T (stops mine table j) → ⊥
+    goesOn = withLast i (λ j. T (stops mine table j) → ⊥) (l .on) (λ t. used (r ∙ eqb-true _ _ (isTrue _ (right (ours mine table i) _ t))))
+
+    pub ledNew : rank < p → Led mine table (suc i) i rank
+    ledNew h =
+        record {
+          best = takes (order true table) (l .best) among (aheadIs ltb (rankAt table i) (rankAt table o) i o (byRank (isLower (rankAt table i) (rankAt table o) (rw (← r, ← l .rank) h))));
+          rank = r;
+          on = goesOn;
+        }
+
+    pub ledStays : p ≤ rank → Led mine table (suc i) o p
+    ledStays h =
+        record {
+          best = stays (order true table) (l .best) (λ t. behind (eqb (rankAt table o) (rankAt table i)) refl);
+          rank = l .rank;
+          on = goesOn;
+        }
+      where
+        behind : (b : Bool) → eqb (rankAt table o) (rankAt table i) ≡ b → T (goes true table o i)
+        behind true q = let b : o < i = l .best .below in aheadIs ltb (rankAt table o) (rankAt table i) o i (byNumber (eqb-true _ _ q) (omega arith))
+        behind false q =
+            let d : rankAt table o ≡ rankAt table i → ⊥ = eqb-false _ _ q in
+            aheadIs ltb (rankAt table o) (rankAt table i) o i (byRank (isLower (rankAt table o) (rankAt table i) (omega (arith, h, r, l .rank))))
+
+-- every second circuit is ours
+pub everySecond : (first : ℕ) (table : List ℕ) {i o p : ℕ} → i % 2 ≡ first → Led (byParity first) table (suc i) o p → Led (byParity first) table (i + 2) o p
+everySecond first table {i} e l =
+    let two : i + 2 ≡ suc (suc i) = omega arith in
+    rw two (ledTheirs (byParity first) table l (ne-eqb (suc i % 2) first (λ d. omega (arith, e, d))))
+
+pub sameParity : (i first : ℕ) → i % 2 ≡ first → (i + 2) % 2 ≡ first
+sameParity i first e = omega (arith, e)
+
 -- after i of n records: the best of ours, where there is none the best of theirs, no bad record yet, and none at which the search stops
 pub record Scanned (mine : ℕ → Bool) (table : List ℕ) (n i : ℕ) (o p t q : ℕ) : Type 0 where
   pub ours : Held true table (ours mine table) n i o p
@@ -257,13 +319,6 @@ isFalse false n = refl
 
 next : (n : ℕ) → n + 1 ≡ suc n
 next n = omega arith
-
-pub goodAt : (table : List ℕ) (i n : ℕ) → some n (bad table) ≡ false → i < n → allowedAt table i ≡ true
-goodAt table i n e h = go (allowedAt table i) (noneAt n (bad table) e i h)
-  where
-    go : (b : Bool) → (T (not b) → ⊥) → b ≡ true
-    go true d = refl
-    go false d = absurd (d tt)
 
 module _ (mine : ℕ → Bool) (table : List ℕ) where
   pub scanStart : (n : ℕ) → Scanned mine table n 0 n 0 n 0
@@ -292,20 +347,6 @@ module _ (mine : ℕ → Bool) (table : List ℕ) where
           on = on (λ x. rw e at x);
         })
 
-    -- one of theirs, where one of ours is found
-    pub scanOver : mine i ≡ false → (o ≡ n → ⊥) → Scanned mine table n (i + 1) o p t q
-    scanOver e some =
-        rw (next i)
-        (record {
-          ours = heldPast true table (ours mine table) n (s .ours) not;
-          theirs = λ d. absurd (some d);
-          good = good;
-          on = on (λ x. not (left (ours mine table i) _ x));
-        })
-      where
-        not : T (ours mine table i) → ⊥
-        not x = subst T e (right (free (stateAt table i) (flagsAt table i)) (mine i) x)
-
     module _ (is : free (stateAt table i) (flagsAt table i) ≡ true) (rank : ℕ) (r : rank ≡ rankAt table i) where
       module _ (e : mine i ≡ false) where
         notOurs : Held true table (ours mine table) n (suc i) o p
@@ -322,32 +363,14 @@ module _ (mine : ℕ → Bool) (table : List ℕ) where
               rw (next i)
               (record { ours = notOurs; theirs = λ d. heldStays false table (theirs mine table) n (s .theirs none) below (rw (is, e) tt) rank r b; good = good; on = on (λ x. rw (is, e) at x) })
 
-      module _ (e : mine i ≡ true) (used : rank ≡ 0 → ⊥) where
-        goesOn : T (stops mine table i) → ⊥
-        goesOn x = used (r ∙ eqb-true _ _ (isTrue _ (right (ours mine table i) _ x)))
-
-        new : better true (eqb o n) rank p ≡ true → Scanned mine table n (i + 1) i rank n 0
-        new b =
-            rw (next i)
-            (record { ours = heldNew true table (ours mine table) n (s .ours) below (rw (is, e) tt) rank r b; theirs = λ d. absurd (omega arith); good = good; on = on goesOn })
-
-        pub scanFirst : o ≡ n → Scanned mine table n (i + 1) i rank n 0
-        scanFirst none = new (rw (eq-eqb o n none))
-
-        -- a later one of ours
-        module _ (some : o ≡ n → ⊥) where
-          pub scanOurs : rank < p → Scanned mine table n (i + 1) i rank n 0
-          scanOurs h = new (rw (ne-eqb o n some, lt-ltb rank p h))
-
-          pub scanOursStay : p ≤ rank → Scanned mine table n (i + 1) o p t q
-          scanOursStay h =
-              rw (next i)
-              (record {
-                ours = heldStays true table (ours mine table) n (s .ours) below (rw (is, e) tt) rank r (rw (ne-eqb o n some, le-ltb rank p h));
-                theirs = λ d. absurd (some d);
-                good = good;
-                on = on goesOn;
-              })
+      -- the first of ours
+      pub scanFirst : mine i ≡ true → (rank ≡ 0 → ⊥) → o ≡ n → Led mine table (suc i) i rank
+      scanFirst e used none =
+          record {
+            best = starts (order true table) (s .ours .none none) (rw (is, e) tt);
+            rank = r;
+            on = on (λ x. used (r ∙ eqb-true _ _ (isTrue _ (right (ours mine table i) _ x))));
+          }
 
   -- the definition's choice, from the best of ours or of theirs
   choiceOurs : (n b k : ℕ) → Best (ours mine table) (goes true table) n b → looked mine table n ≡ k → choice mine table n ≡ taken b k
@@ -366,7 +389,7 @@ module _ (mine : ℕ → Bool) (table : List ℕ) where
   pub scanBad : (i n : ℕ) → i < n → allowedAt table i ≡ false → refused 12 ≡ searched mine table n
   scanBad i n h e = rw (someAt n (bad table) i h (rw e tt))
 
-  -- the whole table, where none of ours was found and where one was
+  -- the whole table, where none of ours was found
   module _ {n o p t q : ℕ} (s : Scanned mine table n n o p t q) where
     pub scanEnd : o ≡ n → concluded t n ≡ searched mine table n
     scanEnd none = rw (noneOf n (bad table) (s .good)) (go (eqb t n) refl)
@@ -374,9 +397,6 @@ module _ (mine : ℕ → Bool) (table : List ℕ) where
         go : (b : Bool) → eqb t n ≡ b → cond b (refused 14) (taken t n) ≡ choice mine table n
         go false d = sym (choiceTheirs n t (s .ours .none none) (s .theirs none .best (eqb-false t n d)))
         go true d = sym (choiceNone n (s .ours .none none) (s .theirs none .none (eqb-true t n d)))
-
-    pub scanEndOurs : (o ≡ n → ⊥) → taken o n ≡ choice mine table n
-    scanEndOurs some = sym (choiceOurs n o n (s .ours .best some) (rw (noneOf n (stops mine table) (s .on))))
 
   -- where no record is bad
   pub allGood : (n : ℕ) → some n (bad table) ≡ false → choice mine table n ≡ searched mine table n
@@ -400,11 +420,16 @@ module _ (mine : ℕ → Bool) (table : List ℕ) where
       pub badBehind : b ≡ false → refused 12 ≡ searched mine table n
       badBehind d = rw (sym behind ∙ not-false (some n (badFrom table (i + 1))) (sym e ∙ d))
 
-  -- one of ours with rank 0
-  module _ {n i o p t q : ℕ} (s : Scanned mine table n i o p t q) (h : i < n) (is : free (stateAt table i) (flagsAt table i) ≡ true) (c : mine i ≡ true) (unused : rankAt table i ≡ 0) where
+  -- one of ours with rank 0, where none before it stops the search
+  module _ {i : ℕ} (on : (j : ℕ) → j < i → T (stops mine table j) → ⊥) (n : ℕ) (h : i < n) (is : free (stateAt table i) (flagsAt table i) ≡ true) (c : mine i ≡ true) (unused : rankAt table i ≡ 0) where
     here : T (stops mine table i)
     here = rw (is, c, unused) tt
 
-    pub scanStop : taken i (i + 1) ≡ choice mine table n
-    scanStop =
-        sym (choiceOurs n i (i + 1) (firstUnused mine table n i h here (s .on)) (rw (someAt n (stops mine table) i h here, firstAt n (stops mine table) i h here (s .on))))
+    pub stopHere : taken i (i + 1) ≡ choice mine table n
+    stopHere =
+        sym (choiceOurs n i (i + 1) (firstUnused mine table n i h here on) (rw (someAt n (stops mine table) i h here, firstAt n (stops mine table) i h here on)))
+
+  -- the whole table, where one of ours was found
+  pub ledEnd : {i o p : ℕ} → Led mine table i o p → (n : ℕ) → n ≤ i → o < n → taken o n ≡ choice mine table n
+  ledEnd {i} {o} {p} l n past below =
+      sym (choiceOurs n o n (record { below = below; is = l .best .is; goesFirst = λ j h t. l .best .goesFirst j (omega arith) t }) (rw (noneOf n (stops mine table) (λ j h. l .on j (omega arith)))))

@@ -3,14 +3,14 @@ use circuit::Cic;
 use circuit::PointCode;
 use layout::Stored;
 ghost use mathlib.Core.Path.{_≡_};
-ghost use mathlib.Core.Bool.{false, not};
-ghost use Prim.Native.Nat.{_<_, _≤_};
+ghost use mathlib.Core.Bool.{not};
+ghost use Prim.Native.Nat.{_%_, _<_, _≤_};
 ghost use lib.ListN.{length};
 ghost use Rattle.layout.specs.Layout.{recordsIn};
 ghost use Rattle.circuit.specs.Groups.{lowest, byParity};
 ghost use Rattle.select.specs.First.{some};
-ghost use Rattle.select.specs.Selection.{refused, taken, free, bad, choice, selectIn};
-ghost use Rattle.select.specs.Search.{badFrom, concluded, searched, Scanned};
+ghost use Rattle.select.specs.Selection.{refused, taken, free, choice, selectIn};
+ghost use Rattle.select.specs.Search.{badFrom, concluded, searched, Led};
 
 // What selection answers: the refusal's number, 0 where there is none; the circuit; how many records were looked at.
 pub struct Selected {
@@ -68,21 +68,19 @@ fn allowed_from(table: &[u8], from: u32, records: u32) -> bool
     true
 }
 
-// The records from one on, all of them allowed, where circuit `best` with its rank is the best of ours before them: theirs are passed over.
-fn ours_from(first: u32, table: &[u8], from: u32, best: u32, rank: u64, records: u32) -> Selected
-    requires { ⌜ (records ≤ recordsIn (length (now table))) × (from ≤ records) × (best < records) ⌝ }
-    requires { ⌜ some records (bad (now table)) ≡ false ⌝ }
-    requires { ⌜ Scanned (byParity first) (now table) records from best rank records 0 ⌝ }
-    ensures { λ r. ⌜ r ≡ choice (byParity first) (now (table .entry)) records ⌝ }
+// Those of ours from one on, where circuit `best` with its rank is the best of ours before it. Every second circuit is ours.
+fn ours_from(table: &[u8], from: u32, best: u32, rank: u64, records: u32) -> Selected
+    requires { ⌜ (records ≤ recordsIn (length (now table))) × (records ≤ 4096) × (best < records) ⌝ }
+    requires { ⌜ Led (byParity (from % 2)) (now table) from best rank ⌝ }
+    ensures { λ r. ⌜ r ≡ choice (byParity (from % 2)) (now (table .entry)) records ⌝ }
 {
     let mut chosen = best;
     let mut lowest = rank;
-    for i in from..records {
-        if i % 2 != first {
-            continue;
-        }
+    let mut i = from;
+    while i < records {
         let at = layout::stored_at(table, Cic(i));
         if !free(at) {
+            i += 2;
             continue;
         }
         if at.rank == 0 {
@@ -92,6 +90,7 @@ fn ours_from(first: u32, table: &[u8], from: u32, best: u32, rank: u64, records:
             chosen = i;
             lowest = at.rank;
         }
+        i += 2;
     }
     taken(chosen, records)
 }
@@ -107,10 +106,10 @@ fn conclude(theirs: u32, records: u32) -> Selected
     }
 }
 
-// Judges each record and looks at it, where ours are the circuits of one parity. Once one of ours is found, the other records are judged and theirs
-// are passed over. It stops at one of ours with rank 0: none can have been released before it.
+// Judges each record and looks at it, where ours are the circuits of one parity. Once one of ours is found, the other records are judged, and only
+// ours among them are looked at. It stops at one of ours with rank 0: none can have been released before it.
 fn search(first: u32, table: &[u8], records: u32) -> Selected
-    requires { ⌜ records ≤ recordsIn (length (now table)) ⌝ }
+    requires { ⌜ (records ≤ recordsIn (length (now table))) × (records ≤ 4096) ⌝ }
     ensures { λ r. ⌜ r ≡ searched (byParity first) (now (table .entry)) records ⌝ }
 {
     let mut theirs = records;
@@ -130,7 +129,7 @@ fn search(first: u32, table: &[u8], records: u32) -> Selected
             if at.rank == 0 {
                 return taken(i, i + 1);
             }
-            return ours_from(first, table, i + 1, i, at.rank, records);
+            return ours_from(table, i + 2, i, at.rank, records);
         }
         if circuit::either(theirs == records, highest < at.rank) {
             theirs = i;

@@ -7,7 +7,7 @@ use mathlib.Core.Logic.{⊎-elim}
 use borrow.Author.Tests.{not-true, not-false, eq-eqb, ne-eqb}
 use borrow.Author.Needs.{needs}
 use Rattle.circuit.specs.Groups.{byParity}
-use Rattle.select.specs.Search.{judged, freeAt, rankIs, Scanned, scanStart, scanBusy, scanTheirs, scanTheirsStay, scanFirst, scanBad, scanStop, scanEnd, allGood, noneBehind, badBehind}
+use Rattle.select.specs.Search.{judged, freeAt, rankIs, Scanned, scanStart, scanBusy, scanTheirs, scanTheirsStay, scanFirst, scanBad, stopHere, everySecond, sameParity, scanEnd, allGood, noneBehind, badBehind}
 use Rattle.select.proofs.search.Statement.{statement}
 use Rattle.select.proofs.search.Tie as tie
 
@@ -35,7 +35,7 @@ returns : tie.Need-returns Inv-loop μ-loop
 returns c =
     let a = c .before .before in let r = a .before in let l = r .before in let h = l .loop-test .taken in
     c .refused .ensures
-    ∙ scanBad _ _ _ _ h (judged _ _ _ (l .before .before .before .pre) h (r .stored-at .ensures) (a .allowed .ensures) ∙ not-true _ (c .before .if1 .taken))
+    ∙ scanBad _ _ _ _ h (judged _ _ _ (l .before .before .before .pre .0) h (r .stored-at .ensures) (a .allowed .ensures) ∙ not-true _ (c .before .if1 .taken))
 
 free-requires : tie.Need-free-requires Inv-loop μ-loop
 free-requires c κs = search needs
@@ -50,7 +50,7 @@ loop-less c = search needs
 loop-again : tie.Need-loop-again Inv-loop μ-loop
 loop-again c =
     let f = c .before in let a = f .before .before in let r = a .before in let l = r .before in
-    let all = l .before .before .before .pre in let h = l .loop-test .taken in let e = r .stored-at .ensures in (
+    let all = l .before .before .before .pre .0 in let h = l .loop-test .taken in let e = r .stored-at .ensures in (
       search needs,
       scanBusy _ _ (l .before .loop .inv .1) h (judged _ _ _ all h e (a .allowed .ensures) ∙ not-false _ (f .before .if1 .left))
           (freeAt _ _ _ all h e (f .free .ensures) ∙ not-true _ (c .if2 .taken)),
@@ -69,7 +69,7 @@ refused-requires-2 c κs = search needs
 returns-2 : tie.Need-returns-2 Inv-loop μ-loop
 returns-2 c =
     let b = c .before .before in let f = b .before .before .before in let a = f .before .before in let r = a .before in let l = r .before in
-    let all = l .before .before .before .pre in let h = l .loop-test .taken in
+    let all = l .before .before .before .pre .0 in let h = l .loop-test .taken in
     c .refused2 .ensures
     ∙ badBehind _ _ (l .before .loop .inv .1) (judged _ _ _ all h (r .stored-at .ensures) (a .allowed .ensures) ∙ not-false _ (f .before .if1 .left))
     (b .allowed-from .ensures) (not-true _ (c .before .if4 .taken))
@@ -84,10 +84,10 @@ taken-requires c κs = search needs
 returns-3 : tie.Need-returns-3 Inv-loop μ-loop
 returns-3 c =
     let z = c .before in let n = z .before .before in let b = n .before in let f = b .before .before .before in let a = f .before .before in let r = a .before in let l = r .before in
-    let all = l .before .before .before .pre in let h = l .loop-test .taken in let e = r .stored-at .ensures in let s = l .before .loop .inv .1 in
+    let all = l .before .before .before .pre .0 in let h = l .loop-test .taken in let e = r .stored-at .ensures in let s = l .before .loop .inv .1 in
     let ok = judged _ _ _ all h e (a .allowed .ensures) ∙ not-false _ (f .before .if1 .left) in
     c .taken .ensures
-    ∙ scanStop _ _ s h (freeAt _ _ _ all h e (f .free .ensures) ∙ not-false _ (b .before .before .if2 .left)) (eq-eqb _ _ (b .before .if3 .taken)) (sym (rankIs _ _ _ all h e) ∙ z .if5 .taken)
+    ∙ stopHere _ _ (s .on) _ h (freeAt _ _ _ all h e (f .free .ensures) ∙ not-false _ (b .before .before .if2 .left)) (eq-eqb _ _ (b .before .if3 .taken)) (sym (rankIs _ _ _ all h e) ∙ z .if5 .taken)
     ∙ allGood _ _ _ (noneBehind _ _ s ok (b .allowed-from .ensures) (not-false _ (n .if4 .left)))
 
 add-ours-from : tie.Need-add-ours-from Inv-loop μ-loop
@@ -96,22 +96,22 @@ add-ours-from c = search needs
 ours-from-requires : tie.Need-ours-from-requires Inv-loop μ-loop
 ours-from-requires c κs =
     let n = c .before .before in let b = n .before in let f = b .before .before .before in let a = f .before .before in let r = a .before in let l = r .before in
-    let all = l .before .before .before .pre in let h = l .loop-test .taken in let e = r .stored-at .ensures in let s = l .before .loop .inv .1 in
-    let ok = judged _ _ _ all h e (a .allowed .ensures) ∙ not-false _ (f .before .if1 .left) in (
-      (all, search needs, h),
-      (
-        noneBehind _ _ s ok (b .allowed-from .ensures) (not-false _ (n .if4 .left)),
-        scanFirst _ _ s h ok (freeAt _ _ _ all h e (f .free .ensures) ∙ not-false _ (b .before .before .if2 .left)) _ (rankIs _ _ _ all h e) (eq-eqb _ _ (b .before .if3 .taken)) (c .if5 .left) refl,
-      ),
+    let p = l .before .before .before .pre in let h = l .loop-test .taken in let e = r .stored-at .ensures in
+    let ok = judged _ _ _ (p .0) h e (a .allowed .ensures) ∙ not-false _ (f .before .if1 .left) in
+    let par = b .before .if3 .taken in (
+      (p .0, p .1, h),
+      rw (sameParity _ _ par)
+          (everySecond _ _ par
+          (scanFirst _ _ (l .before .loop .inv .1) h ok (freeAt _ _ _ (p .0) h e (f .free .ensures) ∙ not-false _ (b .before .before .if2 .left)) _ (rankIs _ _ _ (p .0) h e) (eq-eqb _ _ par) (c .if5 .left) refl)),
     )
 
 -- another one of ours
 returns-4 : tie.Need-returns-4 Inv-loop μ-loop
 returns-4 c =
     let n = c .before .before .before in let b = n .before in let f = b .before .before .before in let a = f .before .before in let r = a .before in let l = r .before in
-    let all = l .before .before .before .pre in let h = l .loop-test .taken in
+    let all = l .before .before .before .pre .0 in let h = l .loop-test .taken in
     let ok = judged _ _ _ all h (r .stored-at .ensures) (a .allowed .ensures) ∙ not-false _ (f .before .if1 .left) in
-    c .ours-from .ensures ∙ allGood _ _ _ (noneBehind _ _ (l .before .loop .inv .1) ok (b .allowed-from .ensures) (not-false _ (n .if4 .left)))
+    rw (sameParity _ _ (b .before .if3 .taken)) at (c .ours-from .ensures) ∙ allGood _ _ _ (noneBehind _ _ (l .before .loop .inv .1) ok (b .allowed-from .ensures) (not-false _ (n .if4 .left)))
 
 either-requires : tie.Need-either-requires Inv-loop μ-loop
 either-requires c κs = search needs
@@ -126,7 +126,7 @@ loop-less-2 c = search needs
 loop-again-2 : tie.Need-loop-again-2 Inv-loop μ-loop
 loop-again-2 c =
     let b = c .before in let o = b .before .before in let f = o .before .before in let a = f .before .before in let r = a .before in let l = r .before in
-    let all = l .before .before .before .pre in let h = l .loop-test .taken in let e = r .stored-at .ensures in let s = l .before .loop .inv .1 in
+    let all = l .before .before .before .pre .0 in let h = l .loop-test .taken in let e = r .stored-at .ensures in let s = l .before .loop .inv .1 in
     let ok = judged _ _ _ all h e (a .allowed .ensures) ∙ not-false _ (f .before .if1 .left) in
     let is = freeAt _ _ _ all h e (f .free .ensures) ∙ not-false _ (o .before .if2 .left) in
     let con = ne-eqb _ _ (o .if3 .left) in (

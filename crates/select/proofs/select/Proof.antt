@@ -31,7 +31,9 @@ cast-search c =
     record { fits = omega (arith, atMost4096 (a .own .0) (a .far .0) (n .records .result) (sym (g .bad-group .ensures) ∙ c .before .if1 .left)) }
 
 search-requires : tie.Need-search-requires
-search-requires c κs = rw (c .before .before .before .records .ensures) (omega arith)
+search-requires c κs =
+    let g = c .before .before in let n = g .before in let a = n .before .before .args in
+    (rw (n .records .ensures) (omega arith), atMost4096 (a .own .0) (a .far .0) (n .records .result) (sym (g .bad-group .ensures) ∙ c .before .if1 .left))
 
 returns-2 : tie.Need-returns-2
 returns-2 c =
