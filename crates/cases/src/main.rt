@@ -1,11 +1,13 @@
-// Runs document 01's worked cases, which stand in the file `stdin`: prints each line that is answered otherwise, and how many were run.
+// Runs the worked cases of documents 01 and 02, which stand in the file `stdin`: prints each line that is answered otherwise, and how many were run.
 use libc::STDIN_FILENO;
 use libc::STDOUT_FILENO;
 use lines::Line;
 
+mod choices; // choices.rt: the cases of selection
 mod lines; // lines.rt: reading the table of cases
 mod messages; // messages.rt: the cases of a message
 mod steps; // steps.rt: the cases of a step
+mod tables; // tables.rt: laying out the table of a case
 
 // A case of a message, of which the line's first numbers are one.
 fn message_right(numbers: &[u32], count: usize) -> bool {
@@ -26,10 +28,10 @@ fn message_right(numbers: &[u32], count: usize) -> bool {
 fn right(line: Line) -> bool {
     let fields = line.fields;
     let count = line.count;
-    if fields[0] == 1 {
-        count == 17 && steps::right(fields)
-    } else {
-        message_right(&fields, count)
+    match fields[0] {
+        1 => count == 17 && steps::right(fields),
+        4 => choices::right(fields, count),
+        _ => message_right(&fields, count),
     }
 }
 

@@ -1,4 +1,6 @@
 // A worked case of a step: the table is laid out, the entry for C is called, and its answer and every octet of the table are compared.
+use super::tables;
+use super::tables::octet;
 ghost use Prim.Native.Nat.{_<_};
 
 // A table as a case has it: the counter of releases, a circuit's record from the place `at` on, and one octet everywhere beside these.
@@ -11,77 +13,17 @@ struct Laid {
     beside: u8,
 }
 
-fn octet(n: u32) -> u8 {
-    (n % 256) as u8
-}
-
-fn low(n: u64) -> u8 {
-    (n % 256) as u8
-}
-
 fn wide(o: u8) -> u64
     ensures { λ r. ⌜ r < 256 ⌝ }
 {
     o as u64
 }
 
-// Where a circuit's record begins: behind the counter's eight octets, ten octets to a record.
-fn place(cic: u32) -> usize {
-    8 + 10 * (cic as usize)
-}
-
-// Fills zeros with an octet.
-fn fill(octets: &mut [u8], o: u8) {
-    if o == 0 {
-        return;
-    }
-    let mut i = 0;
-    while i < octets.len() {
-        octets[i] = o;
-        i += 1;
-    }
-}
-
-// Puts an octet at a place, if there is such a place.
-fn put(octets: &mut [u8], k: usize, o: u8) {
-    if k < octets.len() {
-        octets[k] = o;
-    }
-}
-
-// Puts a number's lowest four octets.
-fn put_four(octets: &mut [u8], n: u64) {
-    put(octets, 0, low(n));
-    put(octets, 1, low(n / 0x100));
-    put(octets, 2, low(n / 0x10000));
-    put(octets, 3, low(n / 0x1000000));
-}
-
-// Puts a number into eight octets, the lowest first.
-fn put_number(octets: &mut [u8], n: u64) {
-    put_four(octets, n);
-    if 4 < octets.len() {
-        put_four(&mut octets[4..], n / 0x100000000);
-    }
-}
-
-// Puts a record, from the place of its state on.
-fn put_record(octets: &mut [u8], t: Laid) {
-    put(octets, 0, t.state);
-    put(octets, 1, t.flags);
-    if 2 < octets.len() {
-        put_number(&mut octets[2..], t.rank);
-    }
-}
-
 // Lays a table out over zeros.
 fn lay_out(table: &mut [u8], t: Laid) {
-    fill(table, t.beside);
-    put_number(table, t.counter);
-    let at = t.at;
-    if at < table.len() {
-        put_record(&mut table[at..], t);
-    }
+    tables::fill(table, t.beside);
+    tables::put_number(table, t.counter);
+    tables::put_record_at(table, t.at, t.state, t.flags, t.rank);
 }
 
 fn same(octets: &[u8], others: &[u8]) -> bool {
@@ -110,7 +52,7 @@ fn before(f: [u32; 48]) -> Laid {
     let counter = alike(octet(f[4] / 0x100));
     Laid {
         counter: counter / 256 * 256 + wide(octet(f[4] / 0x10000)),
-        at: place(f[5]),
+        at: tables::place(f[5]),
         state: octet(f[6]),
         flags: octet(f[7]),
         rank: rank,

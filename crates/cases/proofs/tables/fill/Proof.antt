@@ -1,12 +1,12 @@
--- `cases::steps::fill` meets its contract.
+-- `cases::tables::fill` meets its contract.
 -- Assumes nothing.
 use lib.ListN.{length, length-set}
 use native.Mathlib.Omega.{arith}
 use Prim.Native.Nat.{_≤_, _-_}
 use mathlib.Core.Path.{_≡_}
 use borrow.Author.Needs.{needs}
-use Rattle.cases.proofs.steps.fill.Statement.{statement}
-use Rattle.cases.proofs.steps.fill.Tie as tie
+use Rattle.cases.proofs.tables.fill.Statement.{statement}
+use Rattle.cases.proofs.tables.fill.Tie as tie
 
 abbrev Inv-loop : tie.InvT-loop
 Inv-loop octets₀ o i₀ octets i = (i ≤ length octets) × (length octets ≡ length octets₀)
