@@ -21,7 +21,7 @@ use Rattle.group.specs.Laws as Group
 use Rattle.select.specs.declared.Selected.{Selected}
 use Rattle.select.specs.First.{first, some, best, firstAt, firstHolds, firstNot, someAt, noneOf, noneAt, Best, theBest, isTheBest}
 use Rattle.select.specs.Selection.{refused, taken, qualifies, ours, theirs, earlier, later, stops, looked, choice, bad, selectIn}
-use Rattle.select.specs.Search.{before, lower, Ahead, Ahead.byRank, Ahead.byNumber, view, order, firstUnused}
+use Rattle.select.specs.Orders.{before, lower, Ahead, Ahead.byRank, Ahead.byNumber, view, order, firstUnused}
 
 -- i was released before j, or with the same rank and i is not above j
 pub record Earlier (table : List ℕ) (i j : ℕ) : Type 0 where

@@ -1,4 +1,5 @@
 pub mod First
 pub mod Selection
+pub mod Orders
 pub mod Search
 pub mod Laws

@@ -2,18 +2,18 @@
 -- Assumes nothing.
 use Prim.Native.Nat.{_-_, _≤_}
 use native.Mathlib.Omega.{arith}
-use mathlib.Core.Path.{_≡_, refl, sym, _∙_}
+use mathlib.Core.Path.{_≡_, sym, _∙_}
 use mathlib.Core.Logic.{⊎-elim}
 use borrow.Author.Tests.{not-true, not-false, eq-eqb, ne-eqb}
 use borrow.Author.Needs.{needs}
 use Rattle.circuit.specs.Groups.{byParity}
-use Rattle.select.specs.Search.{judged, freeAt, rankIs, Scanned, scanStart, scanBusy, scanTheirs, scanTheirsStay, scanFirst, scanBad, stopHere, everySecond, sameParity, scanEnd, allGood, noneBehind, badBehind}
+use Rattle.select.specs.Search.{judged, freeAt, rankIs, Scanned, scanStart, noStop, scanBusy, scanTheirs, scanTheirsStay, scanFirst, scanBad, stopHere, everySecond, sameParity, scanEnd, allGood, noneBehind, badBehind}
 use Rattle.select.proofs.search.Statement.{statement}
 use Rattle.select.proofs.search.Tie as tie
 
 abbrev Inv-loop : tie.InvT-loop
 Inv-loop first table records theirs₀ highest₀ i₀ theirs highest i =
-    (i ≤ records) × Scanned (byParity first) table records i records 0 theirs highest
+    (i ≤ records) × Scanned (byParity first) table records i theirs highest
 
 abbrev μ-loop : tie.MeasureT-loop
 μ-loop first table records theirs₀ highest₀ i₀ theirs highest i = records - i
@@ -87,7 +87,7 @@ returns-3 c =
     let all = l .before .before .before .pre .0 in let h = l .loop-test .taken in let e = r .stored-at .ensures in let s = l .before .loop .inv .1 in
     let ok = judged _ _ _ all h e (a .allowed .ensures) ∙ not-false _ (f .before .if1 .left) in
     c .taken .ensures
-    ∙ stopHere _ _ (s .on) _ h (freeAt _ _ _ all h e (f .free .ensures) ∙ not-false _ (b .before .before .if2 .left)) (eq-eqb _ _ (b .before .if3 .taken)) (sym (rankIs _ _ _ all h e) ∙ z .if5 .taken)
+    ∙ stopHere _ _ (noStop _ _ s) _ h (freeAt _ _ _ all h e (f .free .ensures) ∙ not-false _ (b .before .before .if2 .left)) (eq-eqb _ _ (b .before .if3 .taken)) (sym (rankIs _ _ _ all h e) ∙ z .if5 .taken)
     ∙ allGood _ _ _ (noneBehind _ _ s ok (b .allowed-from .ensures) (not-false _ (n .if4 .left)))
 
 add-ours-from : tie.Need-add-ours-from Inv-loop μ-loop
@@ -102,7 +102,7 @@ ours-from-requires c κs =
       (p .0, p .1, h),
       rw (sameParity _ _ par)
           (everySecond _ _ par
-          (scanFirst _ _ (l .before .loop .inv .1) h ok (freeAt _ _ _ (p .0) h e (f .free .ensures) ∙ not-false _ (b .before .before .if2 .left)) _ (rankIs _ _ _ (p .0) h e) (eq-eqb _ _ par) (c .if5 .left) refl)),
+          (scanFirst _ _ (l .before .loop .inv .1) h ok (freeAt _ _ _ (p .0) h e (f .free .ensures) ∙ not-false _ (b .before .before .if2 .left)) _ (rankIs _ _ _ (p .0) h e) (eq-eqb _ _ par) (c .if5 .left))),
     )
 
 -- another one of ours
@@ -131,8 +131,8 @@ loop-again-2 c =
     let is = freeAt _ _ _ all h e (f .free .ensures) ∙ not-false _ (o .before .if2 .left) in
     let con = ne-eqb _ _ (o .if3 .left) in (
       search needs,
-      ⊎-elim (λ w. rw (w .1, w .2) (scanTheirs _ _ s h ok is _ (rankIs _ _ _ all h e) con refl (sym (b .either .ensures) ∙ w .0 .taken)))
-          (λ w. rw (w .1, w .2) (scanTheirsStay _ _ s h ok is _ (rankIs _ _ _ all h e) con refl (sym (b .either .ensures) ∙ w .0 .left))) (c .if6 .came),
+      ⊎-elim (λ w. rw (w .1, w .2) (scanTheirs _ _ s h ok is _ (rankIs _ _ _ all h e) con (sym (b .either .ensures) ∙ w .0 .taken)))
+          (λ w. rw (w .1, w .2) (scanTheirsStay _ _ s h ok is _ (rankIs _ _ _ all h e) con (sym (b .either .ensures) ∙ w .0 .left))) (c .if6 .came),
     )
 
 conclude-requires : tie.Need-conclude-requires Inv-loop μ-loop
@@ -142,7 +142,7 @@ returns-5 : tie.Need-returns-5 Inv-loop μ-loop
 returns-5 c =
     let l = c .before .before in
     let all : l .loop .i ≡ l .before .before .args .records = omega (arith, c .before .loop-test .left, l .loop .inv .0) in
-    c .conclude .ensures ∙ scanEnd _ _ (rw all at (l .loop .inv .1)) refl
+    c .conclude .ensures ∙ scanEnd _ _ (rw all at (l .loop .inv .1))
 
 pub search-spec : {M : Type 1} → statement M
 search-spec =
