@@ -15,8 +15,7 @@ use Rattle.formats.specs.Messages.{listed, isIam, isAcm, fixedLength, half}
 use Rattle.reader.specs.Places.{labelIn, cicIn, headingIn, sixBitsIn, wordIn, indicatorsIn, countIn, addressIn}
 use Rattle.reader.specs.Reading.{plainFields, iamFields, bodyOf, fieldsOf}
 use Rattle.writer.specs.Writing.{Said, acmLimit, tooLarge, badAddress, labelOf, plainOctets, acmOctets, iamOctets, octetsOf, writeRules}
-use Rattle.writer.proofs.Pairs.{at-most}
-use Rattle.writer.proofs.Pairs.{length-pairs}
+use Rattle.writer.proofs.Pairs.{length-pairs, at-most}
 use Rattle.writer.proofs.Tests.{fitting, fitting-iam, few}
 use Rattle.reader.proofs.Bodies.{ours, taken, iam-taken}
 use Rattle.inverse.specs.Numbers.{numberBack, codesBack}
