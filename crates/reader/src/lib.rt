@@ -182,7 +182,7 @@ fn elsewhere(own: PointCode, far: PointCode, label: u64) -> bool
     label / 16384 % 16384 != far.0 as u64
 }
 
-// A message by numbers.
+// What the octets that arrived from the far end say by numbers, in a group with so many records.
 pub fn read_fields(own: PointCode, far: PointCode, records: usize, octets: &[u8]) -> Fields
     ensures { λ r. ⌜ r ≡ fieldsOf (own .0) (far .0) records (now (octets .entry)) ⌝ }
 {
@@ -199,7 +199,7 @@ pub fn read_fields(own: PointCode, far: PointCode, records: usize, octets: &[u8]
     read_body(records, Cic((label / 268435456) as u32), octets)
 }
 
-// What the octets that arrived from the far end say, in a group with so many records.
+// The same as a message that names its signal.
 pub fn read(own: PointCode, far: PointCode, records: usize, octets: &[u8]) -> Reading
     ensures { λ r. ⌜ r ≡ reading (own .0) (far .0) records (now (octets .entry)) ⌝ }
 {
