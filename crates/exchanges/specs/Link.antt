@@ -12,10 +12,10 @@ use Rattle.circuit.specs.declared.Signal.the-variants.{Iam, Acm, Anc, Ann, Cbk,
 use Rattle.circuit.specs.Groups.{badGroup}
 use Rattle.codes.specs.declared.Named.the-variants.{Known}
 use Rattle.codes.specs.Headings.{headingOf}
-use Rattle.link.specs.declared.Fields.{Fields}
-use Rattle.link.specs.declared.Reading.{Reading}
-use Rattle.link.specs.Reading.{fieldsOf, messageOf, reading}
-use Rattle.link.specs.Writing.{Said, said, writing}
+use Rattle.reader.specs.declared.Fields.{Fields}
+use Rattle.reader.specs.declared.Reading.{Reading}
+use Rattle.reader.specs.Reading.{fieldsOf, messageOf, reading}
+use Rattle.writer.specs.Writing.{Said, said, writing}
 use Rattle.inverse.specs.Said.{fieldsSaid}
 use Rattle.inverse.specs.Laws.{readingBack}
 

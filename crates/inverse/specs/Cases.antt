@@ -4,8 +4,8 @@ use mathlib.Core.Path.{_≡_, refl}
 use mathlib.Core.List.{List, [], _∷_, _++_, map}
 use Prim.Native.Nat.{ℕ, _+_}
 use lib.ListN.{replicate}
-use Rattle.link.specs.Reading.{fieldsOf}
-use Rattle.link.specs.Writing.{Said, said, tooLarge, badAddress, octetsOf, writing}
+use Rattle.reader.specs.Reading.{fieldsOf}
+use Rattle.writer.specs.Writing.{Said, said, tooLarge, badAddress, octetsOf, writing}
 
 -- a message of the exchange 2 to the exchange 1, and its octets
 pub record Written : Type 0 where

@@ -9,14 +9,15 @@ use borrow.Author.Tests.{ltb-false, eqb-true}
 use lib.Dec.{ltb}
 use lib.ListN.{length, drop}
 use lib.Seq.{take-append-seam}
-use Rattle.link.specs.declared.Fields.{Fields}
-use Rattle.link.specs.Refusals.{firstOf}
-use Rattle.link.specs.Octets.{aboveFifteen}
-use Rattle.link.specs.Messages.{isIam}
-use Rattle.link.specs.Reading.{noCodes, plainFields, iamFields, fieldsOf}
-use Rattle.link.specs.Writing.{Said, said, acmLimit, categoryLimit, indicatorsLimit, tooLarge, octetsOf, writeRules}
-use Rattle.link.proofs.Tests.{fitting}
-use Rattle.inverse.specs.Groups.{none, turned}
+use Rattle.circuit.specs.Groups.{none}
+use Rattle.reader.specs.declared.Fields.{Fields}
+use Rattle.formats.specs.Refusals.{firstOf}
+use Rattle.formats.specs.Octets.{aboveFifteen}
+use Rattle.formats.specs.Messages.{isIam}
+use Rattle.reader.specs.Reading.{noCodes, plainFields, iamFields, fieldsOf}
+use Rattle.writer.specs.Writing.{Said, said, acmLimit, categoryLimit, indicatorsLimit, tooLarge, octetsOf, writeRules}
+use Rattle.writer.proofs.Tests.{fitting}
+use Rattle.inverse.specs.Groups.{turned}
 use Rattle.inverse.specs.Said.{fieldsSaid, saidOf}
 use Rattle.inverse.specs.ReadBack.{octetsRead, taking}
 

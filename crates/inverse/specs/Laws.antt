@@ -1,4 +1,4 @@
--- The laws of messages on the link, over the definitions that the contracts of `link` cite.
+-- The laws of messages on the link, over the definitions that the contracts of `reader`, `writer` and `link` cite.
 -- Assumes nothing.
 use mathlib.Core.Path.{_≡_, refl, sym, ap, _∙_, subst}
 use mathlib.Core.Bool.{Bool, true, false, cond}
@@ -10,15 +10,15 @@ use lib.Dec.{T}
 use lib.ListN.{length, take, drop}
 use lib.Seq.{take-append-seam}
 use Rattle.circuit.specs.Groups.{badGroup}
-use Rattle.link.specs.declared.Reading.{Reading}
-use Rattle.link.specs.Refusals.{Rule, refuse, firstOf}
-use Rattle.link.specs.Octets.{over}
-use Rattle.link.specs.Messages.{isIam, isAcm, fixedLength, half}
-use Rattle.link.specs.declared.Written.{Written}
-use Rattle.link.specs.Reading.{readRules, fieldsOf, reading}
-use Rattle.link.specs.Writing.{Said, labelOf, octetsOf, writeRules, putting, Outcome, writing, iamOctets, acmOctets, plainOctets}
+use Rattle.reader.specs.declared.Reading.{Reading}
+use Rattle.formats.specs.Refusals.{Rule, refuse, firstOf}
+use Rattle.formats.specs.Octets.{over}
+use Rattle.formats.specs.Messages.{isIam, isAcm, fixedLength, half}
+use Rattle.writer.specs.declared.Written.{Written}
+use Rattle.reader.specs.Reading.{readRules, fieldsOf, reading}
+use Rattle.writer.specs.Writing.{Said, labelOf, octetsOf, writeRules, putting, Outcome, writing, iamOctets, acmOctets, plainOctets}
 use Rattle.link.specs.Entries.{readInto, writeFrom}
-use Rattle.link.proofs.Stores.{length-pairs}
+use Rattle.writer.proofs.Pairs.{length-pairs}
 use Rattle.inverse.specs.Numbers.{Octets}
 use Rattle.inverse.specs.Said.{fieldsSaid, saidOf}
 use Rattle.inverse.specs.ReadBack.{octetsRead}

@@ -9,15 +9,15 @@ use borrow.Author.Tests.{ltb-false, eqb-true, eqb-false, eq-eqb, not-false}
 use lib.Dec.{T, eqb, ltb, lit<, lit≤}
 use lib.ListN.{length, take}
 use Rattle.circuit.specs.Groups.{badGroup}
-use Rattle.link.specs.Refusals.{firstOf}
-use Rattle.link.specs.Octets.{lowFirst, numberOf, pairs, halves, badCodes, aboveFifteen}
-use Rattle.link.specs.Messages.{listed, isIam, isAcm, fixedLength, half, labelIn, cicIn, headingIn, sixBitsIn, wordIn, indicatorsIn, countIn, addressIn}
-use Rattle.link.specs.Reading.{plainFields, iamFields, bodyOf, fieldsOf}
-use Rattle.link.specs.Writing.{Said, acmLimit, tooLarge, badAddress, labelOf, plainOctets, acmOctets, iamOctets, octetsOf, writeRules}
-use Rattle.link.proofs.Signals.{at-most}
-use Rattle.link.proofs.Stores.{length-pairs}
-use Rattle.link.proofs.Tests.{fitting, fitting-iam, few}
-use Rattle.link.proofs.Bodies.{ours, taken, iam-taken}
+use Rattle.formats.specs.Refusals.{firstOf}
+use Rattle.formats.specs.Octets.{lowFirst, numberOf, pairs, halves, badCodes, aboveFifteen}
+use Rattle.formats.specs.Messages.{listed, isIam, isAcm, fixedLength, half}
+use Rattle.reader.specs.Places.{labelIn, cicIn, headingIn, sixBitsIn, wordIn, indicatorsIn, countIn, addressIn}
+use Rattle.reader.specs.Reading.{plainFields, iamFields, bodyOf, fieldsOf}
+use Rattle.writer.specs.Writing.{Said, acmLimit, tooLarge, badAddress, labelOf, plainOctets, acmOctets, iamOctets, octetsOf, writeRules}
+use Rattle.writer.proofs.Pairs.{length-pairs, at-most}
+use Rattle.writer.proofs.Tests.{fitting, fitting-iam, few}
+use Rattle.reader.proofs.Bodies.{ours, taken, iam-taken}
 use Rattle.inverse.specs.Numbers.{numberBack, codesBack}
 use Rattle.inverse.specs.Groups.{Clear, clear, inRange}
 use Rattle.inverse.specs.Said.{fieldsSaid}

@@ -2,10 +2,10 @@
 -- Assumes nothing.
 use mathlib.Core.Bool.{cond}
 use lib.ListN.{take}
-use Rattle.link.specs.declared.Fields.{Fields}
-use Rattle.link.specs.Messages.{isIam}
-use Rattle.link.specs.Reading.{plainFields, iamFields}
-use Rattle.link.specs.Writing.{Said, said}
+use Rattle.reader.specs.declared.Fields.{Fields}
+use Rattle.formats.specs.Messages.{isIam}
+use Rattle.reader.specs.Reading.{plainFields, iamFields}
+use Rattle.writer.specs.Writing.{Said, said}
 
 -- the fields that a reader is to find
 abbrev pub fieldsSaid : Said → Fields

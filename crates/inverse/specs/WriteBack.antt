@@ -10,14 +10,15 @@ use lib.Dec.{T, eqb, ltb, leb, lit<}
 use lib.ListN.{length, getD, take, drop, length-append, length-drop}
 use lib.Seq.{take-append-seam, length-take-le}
 use Rattle.circuit.specs.Groups.{badGroup}
-use Rattle.link.specs.declared.Fields.{Fields}
-use Rattle.link.specs.Refusals.{refuse, firstOf}
-use Rattle.link.specs.Octets.{lowFirst, numberOf, pairs, halves, over, badCodes, aboveFifteen}
-use Rattle.link.specs.Messages.{listed, isIam, isAcm, fixedLength, half, labelIn, dpcIn, opcIn, cicIn, headingIn, sixBitsIn, indicatorsIn, countIn, addressIn}
-use Rattle.link.specs.Reading.{elsewhere, unfit, bodyRules, readRules, noCodes, plainFields, iamFields, fieldsIn, unless, fieldsOf}
-use Rattle.link.specs.Writing.{Said, said, tooLarge, badAddress, labelOf, plainOctets, acmOctets, iamOctets, shortOctets, octetsOf, writeRules, putting, writing}
-use Rattle.link.proofs.Signals.{length-halves}
-use Rattle.link.proofs.Stores.{length-pairs}
+use Rattle.reader.specs.declared.Fields.{Fields}
+use Rattle.formats.specs.Refusals.{refuse, firstOf}
+use Rattle.formats.specs.Octets.{lowFirst, numberOf, pairs, halves, over, badCodes, aboveFifteen}
+use Rattle.formats.specs.Messages.{listed, isIam, isAcm, fixedLength, half}
+use Rattle.reader.specs.Places.{labelIn, dpcIn, opcIn, cicIn, headingIn, sixBitsIn, indicatorsIn, countIn, addressIn}
+use Rattle.reader.specs.Reading.{elsewhere, unfit, bodyRules, readRules, noCodes, plainFields, iamFields, fieldsIn, unless, fieldsOf}
+use Rattle.writer.specs.Writing.{Said, said, tooLarge, badAddress, labelOf, plainOctets, acmOctets, iamOctets, shortOctets, octetsOf, writeRules, putting, writing}
+use Rattle.reader.proofs.Signals.{length-halves}
+use Rattle.writer.proofs.Pairs.{length-pairs}
 use Rattle.inverse.specs.Numbers.{Octets, octetsBack, withoutFiller, pairsBack, halvesFit, laterOctets}
 use Rattle.inverse.specs.Groups.{Clear, clear, turned, recordsFit}
 use Rattle.inverse.specs.Said.{saidOf}

@@ -3,15 +3,17 @@
 use mathlib.Core.Path.{_≡_, refl, sym, ap, _∙_}
 use mathlib.Core.Bool.{Bool, cond}
 use mathlib.Core.List.{List}
-use Prim.Native.Nat.{ℕ, zero, suc, _<_, _≤_}
+use Prim.Native.Nat.{ℕ, zero, suc, _+_, _<_, _≤_}
+use native.Mathlib.Numerals.{add-one}
+use native.Mathlib.Omega.{arith}
 use borrow.Author.Tests.{lt-ltb, le-ltb}
-use lib.ListN.{length}
-use lib.Seq.{paste}
-use Rattle.link.specs.declared.Fields.{Fields}
-use Rattle.link.specs.Octets.{over}
-use Rattle.link.specs.Reading.{fieldsOf}
+use lib.ListN.{length, getD, set}
+use lib.Seq.{paste, paste-suc}
+use Rattle.reader.specs.declared.Fields.{Fields}
+use Rattle.formats.specs.Octets.{over}
+use Rattle.reader.specs.Reading.{fieldsOf}
 use Rattle.link.specs.Entries.{fieldsHead, fieldsOctets, Told, telling, readInto}
-use Rattle.link.proofs.Stores.{paste-behind}
+use Rattle.formats.proofs.Stores.{paste-behind}
 
 -- an answer and a buffer that are told
 pub tells : {o p : Told} {r : ℕ} {l : List ℕ} → o ≡ p → r ≡ p .answer → l ≡ p .buffer → (r ≡ o .answer) × (l ≡ o .buffer)
@@ -23,6 +25,12 @@ pub put-all : (f : Fields) (buffer now after : List ℕ) → length (f .address)
 put-all f buffer now after n p q =
     q ∙ ap (λ (l : List ℕ). paste l 8 (f .address) 15) p ∙ ap (paste (over (fieldsHead f) buffer) 8 (f .address)) (sym n)
     ∙ paste-behind (fieldsHead f) (f .address) buffer
+
+-- a turn of the loop that stores fifteen codes
+pub codes-more : (codes buffer : List ℕ) → 23 ≤ length buffer → length codes ≡ 15 → (i : ℕ) (now : List ℕ) → now ≡ paste buffer 8 codes i → i < 15
+    → set now (8 + i) (getD codes i 0) ≡ paste buffer 8 codes (i + 1)
+codes-more codes buffer room n i now is h =
+    ap (λ (l : List ℕ). set l (8 + i) (getD codes i 0)) is ∙ paste-suc buffer 8 codes i 0 (omega arith) (omega arith) ∙ ap (paste buffer 8 codes) (sym (add-one i))
 
 module _ (own far count : ℕ) (xs buffer : List ℕ) (f : Fields) (is : f ≡ fieldsOf own far count xs) where
   told : readInto own far count xs buffer ≡ telling (f .refusal) f buffer

@@ -5,11 +5,11 @@ use mathlib.Core.List.{List, [], _∷_, _++_}
 use Prim.Native.Nat.{ℕ, zero, suc, _+_, _*_}
 use lib.Dec.{ltb}
 use lib.ListN.{length}
-use Rattle.link.specs.declared.Fields.{Fields}
-use Rattle.link.specs.declared.Written.{Written}
-use Rattle.link.specs.Octets.{lowFirst, over}
-use Rattle.link.specs.Reading.{fieldsOf}
-use Rattle.link.specs.Writing.{Said, writing}
+use Rattle.reader.specs.declared.Fields.{Fields}
+use Rattle.writer.specs.declared.Written.{Written}
+use Rattle.formats.specs.Octets.{lowFirst, over}
+use Rattle.reader.specs.Reading.{fieldsOf}
+use Rattle.writer.specs.Writing.{Said, writing}
 
 -- the fields of a message in 23 octets: circuit (two, lowest first), heading, ACM's octet, category, indicators (two, lowest first), count,
 -- fifteen codes

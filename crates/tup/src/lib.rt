@@ -9,7 +9,7 @@ ghost use Rattle.codes.specs.Numbers.{eventOf};
 ghost use Rattle.group.specs.Table.{stepIn};
 ghost use Rattle.select.specs.Selection.{selectIn};
 ghost use Rattle.link.specs.Entries.{readInto, writeFrom};
-ghost use Rattle.link.specs.Writing.{said};
+ghost use Rattle.writer.specs.Writing.{said};
 ghost use Rattle.tup.specs.Packed.{octets, packed, Unpacks, Unpacked, packedChoice, ChoiceUnpacked};
 
 fn wide(x: u8) -> u64

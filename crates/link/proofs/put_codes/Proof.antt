@@ -2,7 +2,7 @@
 -- Assumes nothing.
 use native.Mathlib.Omega.{arith}
 use borrow.Author.Needs.{needs}
-use Rattle.link.proofs.Stores.{codes-more}
+use Rattle.link.proofs.Entries.{codes-more}
 use lib.Seq.{paste, paste-zero}
 use lib.ListN.{length, length-set}
 use Prim.Native.Nat.{_≤_, _-_}

@@ -1,0 +1,115 @@
+-- How long a message is, by its heading: the cases of `fixed_length`.
+-- Assumes nothing.
+use mathlib.Core.Path.{_≡_, refl, sym, ap, _∙_, subst}
+use mathlib.Core.Bool.{Bool, true, false, cond}
+use mathlib.Core.List.{List, [], _∷_}
+use Prim.Native.Nat.{ℕ, _<_, _≤_}
+use borrow.Author.Tests.{ne-eqb, eqb-true}
+use lib.Dec.{T, eqb, lit<, lit≤}
+use Rattle.circuit.specs.declared.Failure.{Failure}
+use Rattle.circuit.specs.declared.Failure.the-variants.{Sec, Cgc, Nnc, Adi, Cfl, Ssb, Unn, Los, Sst}
+use Rattle.circuit.specs.declared.Signal.{Signal}
+use Rattle.circuit.specs.declared.Signal.the-variants.{Iam, Acm, Anc, Ann, Cbk, Clf, Ran, Rlg, Blo, Bla, Ubl, Uba, Rsc, Fail}
+use Rattle.codes.specs.declared.NamedFailure.the-variants.{IsFailure}
+use Rattle.codes.specs.declared.Named.{Named}
+use Rattle.codes.specs.declared.Named.the-variants.{Known, Unknown}
+use Rattle.codes.specs.Headings.{failureHeading, headingOf, amongFailures, failing, among, signalOf}
+use Rattle.formats.specs.Messages.{isKnown, listed, isIam, isAcm, fixedLength}
+use native.Mathlib.Omega.{arith}
+
+pub six : (h : ℕ) (n : Named) (s : Signal) → (h ≡ 0x11 → ⊥) → (h ≡ 0x14 → ⊥) → n ≡ signalOf h 0 → n ≡ Known s
+    → 6 ≡ cond (listed h) (fixedLength h) 0
+six h n s a b p q =
+    let e : listed h ≡ true = ap isKnown (sym p ∙ q) in
+    let f : fixedLength h ≡ 6 = rw (ne-eqb h 0x11 a, ne-eqb h 0x14 b) in
+    sym (ap (λ (t : Bool). cond t (fixedLength h) 0) e ∙ f)
+
+pub none : (h : ℕ) (n : Named) → n ≡ signalOf h 0 → n ≡ Unknown → 0 ≡ cond (listed h) (fixedLength h) 0
+none h n p q = sym (ap (λ (t : Bool). cond t (fixedLength h) 0) (ap isKnown (sym p ∙ q)))
+
+-- a heading of no length is one that is not listed
+positive : (h : ℕ) → fixedLength h ≡ 0 → ⊥
+positive h = go (isIam h) (isAcm h)
+  where
+    go : (a b : Bool) → _≡_ {A = ℕ} (cond a 9 (cond b 7 6)) 0 → ⊥
+    go true b e = omega arith
+    go false true e = omega arith
+    go false false e = omega arith
+
+pub no-length : (h : ℕ) → cond (listed h) (fixedLength h) 0 ≡ 0 → listed h ≡ false
+no-length h e = go (listed h) refl
+  where
+    go : (b : Bool) → listed h ≡ b → listed h ≡ false
+    go true p = absurd (positive h (sym (ap (λ (t : Bool). cond t (fixedLength h) 0) p) ∙ e))
+    go false p = p
+
+pub a-length : (h : ℕ) → (cond (listed h) (fixedLength h) 0 ≡ 0 → ⊥) → listed h ≡ true
+a-length h n = go (listed h) refl
+  where
+    go : (b : Bool) → listed h ≡ b → listed h ≡ true
+    go true p = p
+    go false p = absurd (n (ap (λ (t : Bool). cond t (fixedLength h) 0) p))
+
+pub the-length : (h n : ℕ) → n ≡ cond (listed h) (fixedLength h) 0 → listed h ≡ true → n ≡ fixedLength h
+the-length h n e p = e ∙ ap (λ (t : Bool). cond t (fixedLength h) 0) p
+
+pub acm-length : (h n : ℕ) → h ≡ 0x14 → n ≡ cond (listed h) (fixedLength h) 0 → n ≡ 7
+acm-length h n e is = is ∙ ap (λ (k : ℕ). cond (listed k) (fixedLength k) 0) e
+
+pub six-or-more : (h : ℕ) → 6 ≤ fixedLength h
+six-or-more h = go (isIam h) (isAcm h)
+  where
+    go : (a b : Bool) → 6 ≤ cond a 9 (cond b 7 6)
+    go true b = lit≤ tt
+    go false true = lit≤ tt
+    go false false = lit≤ tt
+
+-- a heading that is listed is an octet
+failure-octet : (f : Failure) → failureHeading f < 256
+failure-octet Sec = lit< tt
+failure-octet Cgc = lit< tt
+failure-octet Nnc = lit< tt
+failure-octet Adi = lit< tt
+failure-octet Cfl = lit< tt
+failure-octet Ssb = lit< tt
+failure-octet Unn = lit< tt
+failure-octet Los = lit< tt
+failure-octet Sst = lit< tt
+
+signal-octet : (s : Signal) → headingOf s < 256
+signal-octet Iam = lit< tt
+signal-octet (Acm o) = lit< tt
+signal-octet Anc = lit< tt
+signal-octet Ann = lit< tt
+signal-octet Cbk = lit< tt
+signal-octet Clf = lit< tt
+signal-octet Ran = lit< tt
+signal-octet Rlg = lit< tt
+signal-octet Blo = lit< tt
+signal-octet Bla = lit< tt
+signal-octet Ubl = lit< tt
+signal-octet Uba = lit< tt
+signal-octet Rsc = lit< tt
+signal-octet (Fail f) = failure-octet f
+
+same-octet : (h n : ℕ) → eqb h n ≡ true → n < 256 → h < 256
+same-octet h n e l = let q : h ≡ n = eqb-true h n e in omega arith
+
+among-failures : (h : ℕ) (fs : List Failure) → isKnown (failing (amongFailures h fs)) ≡ true → h < 256
+among-failures h [] e = absurd (subst T (sym e) tt)
+among-failures h (f ∷ fs) e = go (eqb h (failureHeading f)) refl (λ q. among-failures h fs q)
+  where
+    go : (b : Bool) → eqb h (failureHeading f) ≡ b → (isKnown (failing (amongFailures h fs)) ≡ true → h < 256) → h < 256
+    go true p more = same-octet h (failureHeading f) p (failure-octet f)
+    go false p more = more (sym (ap (λ (b : Bool). isKnown (failing (cond b (IsFailure f) (amongFailures h fs)))) p) ∙ e)
+
+among-octet : (h : ℕ) (ss : List Signal) → isKnown (among h ss) ≡ true → h < 256
+among-octet h [] e = among-failures h (Sec ∷ Cgc ∷ Nnc ∷ Adi ∷ Cfl ∷ Ssb ∷ Unn ∷ Los ∷ Sst ∷ []) e
+among-octet h (s ∷ ss) e = go (eqb h (headingOf s)) refl (λ q. among-octet h ss q)
+  where
+    go : (b : Bool) → eqb h (headingOf s) ≡ b → (isKnown (among h ss) ≡ true → h < 256) → h < 256
+    go true p more = same-octet h (headingOf s) p (signal-octet s)
+    go false p more = more (sym (ap (λ (b : Bool). isKnown (cond b (Known s) (among h ss))) p) ∙ e)
+
+pub octet : (h : ℕ) → listed h ≡ true → h < 256
+octet h = among-octet h (Iam ∷ Acm 0 ∷ Anc ∷ Ann ∷ Cbk ∷ Clf ∷ Ran ∷ Rlg ∷ Blo ∷ Bla ∷ Ubl ∷ Uba ∷ Rsc ∷ [])

@@ -1,0 +1,3 @@
+pub mod Signals
+pub mod Lengths
+pub mod Stores

@@ -1,0 +1,82 @@
+-- `reader::read_fields` meets its contract.
+-- Assumes nothing.
+use native.Mathlib.Omega.{arith}
+use Prim.Native.Nat.{ℕ, _/_}
+use Rattle.reader.proofs.Bodies.{bad-group, short, stray, ours, strays}
+use mathlib.Core.Path.{sym, _∙_, ap}
+use borrow.Author.Needs.{needs}
+use Rattle.reader.proofs.read_fields.Statement.{statement}
+use Rattle.reader.proofs.read_fields.Tie as tie
+
+bad-group-requires : tie.Need-bad-group-requires
+bad-group-requires c κs = search needs
+
+refused-requires : tie.Need-refused-requires
+refused-requires c κs = search needs
+
+returns : tie.Need-returns
+returns c = c .refused .ensures ∙ sym (bad-group _ _ _ _ (sym (c .before .before .bad-group .ensures) ∙ c .before .if1 .taken))
+
+refused-requires-2 : tie.Need-refused-requires-2
+refused-requires-2 c κs = search needs
+
+returns-2 : tie.Need-returns-2
+returns-2 c = c .refused2 .ensures ∙ sym (short _ _ _ _ (sym (c .before .before .before .bad-group .ensures) ∙ c .before .before .if1 .left) (c .before .if2 .taken))
+
+shared-slice-read-label-of : tie.Need-shared-slice-read-label-of
+shared-slice-read-label-of c = search needs
+
+shared-slice-read-label-of-2 : tie.Need-shared-slice-read-label-of-2
+shared-slice-read-label-of-2 c = search needs
+
+shared-slice-read-label-of-3 : tie.Need-shared-slice-read-label-of-3
+shared-slice-read-label-of-3 c = search needs
+
+shared-slice-read-label-of-4 : tie.Need-shared-slice-read-label-of-4
+shared-slice-read-label-of-4 c = search needs
+
+shared-slice-read-label-of-5 : tie.Need-shared-slice-read-label-of-5
+shared-slice-read-label-of-5 c = search needs
+
+label-of-requires : tie.Need-label-of-requires
+label-of-requires c κs = search needs
+
+elsewhere-requires : tie.Need-elsewhere-requires
+elsewhere-requires c κs = search needs
+
+refused-requires-3 : tie.Need-refused-requires-3
+refused-requires-3 c κs = search needs
+
+returns-3 : tie.Need-returns-3
+returns-3 c = c .refused3 .ensures ∙ sym (stray _ _ _ (c .before .before .before .before .before .before .before .before .before .before .before .before .before .args .octets .now) (sym (c .before .before .before .before .before .before .before .before .before .before .before .bad-group .ensures) ∙ c .before .before .before .before .before .before .before .before .before .before .if1 .left) (c .before .before .before .before .before .before .before .before .before .if2 .left) (strays _ _ _ (c .before .before .before .before .before .before .before .before .before .before .before .before .before .args .octets .now) (c .before .before .before .label-of .ensures) (sym (c .before .before .elsewhere .ensures) ∙ c .before .if3 .taken)))
+
+cast-t21 : tie.Need-cast-t21
+cast-t21 c = let k = c .before .before .before .shared-slice-known6 .given in omega (arith, c .before .before .label-of .ensures, k 0, k 1, k 2, k 3, k 4)
+
+read-body-requires : tie.Need-read-body-requires
+read-body-requires c κs = (search needs, ap (λ (l : ℕ). l / 268435456) (c .before .before .label-of .ensures))
+
+returns-4 : tie.Need-returns-4
+returns-4 c = c .read-body .ensures ∙ sym (ours _ _ _ (c .before .before .before .before .before .before .before .before .before .before .before .before .before .args .octets .now) (sym (c .before .before .before .before .before .before .before .before .before .before .before .bad-group .ensures) ∙ c .before .before .before .before .before .before .before .before .before .before .if1 .left) (c .before .before .before .before .before .before .before .before .before .if2 .left) (strays _ _ _ (c .before .before .before .before .before .before .before .before .before .before .before .before .before .args .octets .now) (c .before .before .before .label-of .ensures) (sym (c .before .before .elsewhere .ensures) ∙ c .before .if3 .left)))
+
+pub read-fields-spec : {M : Type 1} → statement M
+read-fields-spec =
+    tie.close
+    (tie.spec
+    bad-group-requires
+    refused-requires
+    returns
+    refused-requires-2
+    returns-2
+    shared-slice-read-label-of
+    shared-slice-read-label-of-2
+    shared-slice-read-label-of-3
+    shared-slice-read-label-of-4
+    shared-slice-read-label-of-5
+    label-of-requires
+    elsewhere-requires
+    refused-requires-3
+    returns-3
+    cast-t21
+    read-body-requires
+    returns-4)

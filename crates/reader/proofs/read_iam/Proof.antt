@@ -1,0 +1,109 @@
+-- `reader::read_iam` meets its contract.
+-- Assumes nothing.
+use native.Mathlib.Omega.{arith}
+use Rattle.reader.proofs.Bodies.{iam-short, empty, too-long, room, prefix, spoilt, no-circuit, read-whole}
+use mathlib.Core.Path.{sym, _∙_}
+use borrow.Author.Needs.{needs}
+use Rattle.reader.proofs.read_iam.Statement.{statement}
+use Rattle.reader.proofs.read_iam.Tie as tie
+
+refused-requires : tie.Need-refused-requires
+refused-requires c κs = search needs
+
+returns : tie.Need-returns
+returns c = c .refused .ensures ∙ sym (iam-short _ _ (c .before .if1 .taken))
+
+shared-slice-read-word-of : tie.Need-shared-slice-read-word-of
+shared-slice-read-word-of c = search needs
+
+shared-slice-read-word-of-2 : tie.Need-shared-slice-read-word-of-2
+shared-slice-read-word-of-2 c = search needs
+
+word-of-requires : tie.Need-word-of-requires
+word-of-requires c κs = search needs
+
+cast-count : tie.Need-cast-count
+cast-count c = search needs
+
+refused-requires-2 : tie.Need-refused-requires-2
+refused-requires-2 c κs = search needs
+
+returns-2 : tie.Need-returns-2
+returns-2 c = c .refused2 .ensures ∙ sym (empty _ _ _ (c .before .before .word-of .ensures) (c .before .before .before .before .before .if1 .left) (c .before .if2 .taken))
+
+add-if3 : tie.Need-add-if3
+add-if3 c = search needs
+
+add-if3-2 : tie.Need-add-if3-2
+add-if3-2 c = search needs
+
+refused-requires-3 : tie.Need-refused-requires-3
+refused-requires-3 c κs = search needs
+
+returns-3 : tie.Need-returns-3
+returns-3 c = c .refused3 .ensures ∙ sym (too-long _ _ _ (c .before .before .before .word-of .ensures) (c .before .before .before .before .before .before .if1 .left) (c .before .before .if2 .left) (c .before .if3 .taken))
+
+codes-in-requires : tie.Need-codes-in-requires
+codes-in-requires c κs = let w = c .before .before in omega (arith, w .word-of .ensures, w .before .shared-slice-known3 .given 7, w .before .shared-slice-known3 .given 8, c .if3 .left)
+
+array-share-prefix-codes : tie.Need-array-share-prefix-codes
+array-share-prefix-codes c = room (c .before .before .before .before .before .before .before .before .args .records) (c .before .before .before .before .before .before .before .before .args .octets .now) _ (c .before .before .before .word-of .ensures) (c .before .before .before .before .before .before .if1 .left) (c .before .before .if2 .left) (c .before .if3 .left) _ (c .codes-in .ensures)
+
+slice-aggregate-bad-codes : tie.Need-slice-aggregate-bad-codes
+slice-aggregate-bad-codes c = prefix (c .before .before .before .before .before .before .before .before .before .args .records) (c .before .before .before .before .before .before .before .before .before .args .octets .now) _ (c .before .before .before .before .word-of .ensures) (c .before .before .before .before .before .before .before .if1 .left) (c .before .before .before .if2 .left) (c .before .before .if3 .left) _ (c .before .codes-in .ensures)
+
+bad-codes-requires : tie.Need-bad-codes-requires
+bad-codes-requires c κs = search needs
+
+refused-requires-4 : tie.Need-refused-requires-4
+refused-requires-4 c κs = search needs
+
+returns-4 : tie.Need-returns-4
+returns-4 c = let d = c .before .before .before .before in c .refused4 .ensures ∙ sym (spoilt _ (d .before .before .before .before .before .before .before .before .args .octets .now) _ (d .before .before .before .word-of .ensures) (d .before .before .before .before .before .before .if1 .left) (d .before .before .if2 .left) (d .before .if3 .left) _ (d .codes-in .ensures) (sym (c .before .before .bad-codes .ensures) ∙ c .before .if4 .taken))
+
+cast-if5 : tie.Need-cast-if5
+cast-if5 c = search needs
+
+refused-requires-5 : tie.Need-refused-requires-5
+refused-requires-5 c κs = search needs
+
+returns-5 : tie.Need-returns-5
+returns-5 c = let d = c .before .before .before .before .before .before in c .refused5 .ensures ∙ sym (no-circuit _ (d .before .before .before .before .before .before .before .before .args .octets .now) _ (d .before .before .before .word-of .ensures) (d .before .before .before .before .before .before .if1 .left) (d .before .before .if2 .left) (d .before .if3 .left) _ (d .codes-in .ensures) (sym (c .before .before .before .before .bad-codes .ensures) ∙ c .before .before .before .if4 .left) (rw (d .before .before .before .before .before .before .before .before .pre) at (c .before .if5 .taken)))
+
+shared-slice-read-t12 : tie.Need-shared-slice-read-t12
+shared-slice-read-t12 c = search needs
+
+cast-t22 : tie.Need-cast-t22
+cast-t22 c = let w = c .before .before .before .before .before .before .before .before .before in omega (arith, w .word-of .ensures, w .before .shared-slice-known3 .given 7, w .before .shared-slice-known3 .given 8)
+
+returns-6 : tie.Need-returns-6
+returns-6 c = let d = c .before .before .before .before .before .before in sym (read-whole (d .before .before .before .before .before .before .before .before .args .records) (d .before .before .before .before .before .before .before .before .args .octets .now) _ (d .before .before .before .word-of .ensures) (d .before .before .before .before .before .before .if1 .left) (d .before .before .if2 .left) (d .before .if3 .left) _ (d .codes-in .ensures) (sym (c .before .before .before .before .bad-codes .ensures) ∙ c .before .before .before .if4 .left) (d .before .before .before .before .before .before .before .before .args .circuit) (d .before .before .before .before .before .before .before .before .pre) (c .before .if5 .left))
+
+pub read-iam-spec : {M : Type 1} → statement M
+read-iam-spec =
+    tie.close
+    (tie.spec
+    refused-requires
+    returns
+    shared-slice-read-word-of
+    shared-slice-read-word-of-2
+    word-of-requires
+    cast-count
+    refused-requires-2
+    returns-2
+    add-if3
+    add-if3-2
+    refused-requires-3
+    returns-3
+    codes-in-requires
+    array-share-prefix-codes
+    slice-aggregate-bad-codes
+    bad-codes-requires
+    refused-requires-4
+    returns-4
+    cast-if5
+    refused-requires-5
+    returns-5
+    shared-slice-read-t12
+    cast-t22
+    returns-6)

@@ -1,0 +1,222 @@
+// The reader of messages on the link (document 01; Q.723): octets that arrived, as a message or as the refusal of one.
+use circuit::Cic;
+use circuit::PointCode;
+use codes::Named;
+ghost use mathlib.Core.Path.{_≡_};
+ghost use mathlib.Core.Bool.{cond, not, _||_};
+ghost use mathlib.Core.List.{[], _∷_};
+ghost use lib.Dec.{eqb};
+ghost use Prim.Native.Nat.{_+_, _/_, _%_, _≤_, _^_};
+ghost use lib.ListN.{length, drop, take};
+ghost use Rattle.formats.specs.Octets.{numberOf, halves, over};
+ghost use Rattle.formats.specs.Messages.{half};
+ghost use Rattle.reader.specs.Places.{cicIn, headingIn};
+ghost use Rattle.reader.specs.Reading.{noCodes, refused, plainFields, bodyOf, fieldsOf, reading};
+
+// A message by numbers, or the refusal of one with every other field 0: circuit, heading, ACM's octet, IAM's category, indicators and count,
+// and its address signals. A field that the heading does not have is 0, and so is each code from the count on.
+pub struct Fields {
+    pub refusal: u8,
+    pub circuit: Cic,
+    pub heading: u8,
+    pub acm: u8,
+    pub category: u8,
+    pub indicators: u32,
+    pub count: u8,
+    pub address: [u8; 15],
+}
+
+// What a message says. An enum that holds an array is not among the forms that are proved, so the address stands beside the signal and not in
+// it, and so do the other fields that only an IAM has.
+pub struct Message {
+    pub circuit: Cic,
+    pub signal: Named,
+    pub category: u8,
+    pub indicators: u32,
+    pub count: u8,
+    pub address: [u8; 15],
+}
+
+// The refusal's number, 0 where there is none, and the message, whose signal is unknown where it is refused.
+pub struct Reading {
+    pub refusal: u8,
+    pub message: Message,
+}
+
+// The five octets of a label as a number.
+fn label_of(a: u8, b: u8, c: u8, d: u8, e: u8) -> u64
+    ensures { λ r. ⌜ r ≡ numberOf (a ∷ b ∷ c ∷ d ∷ e ∷ []) ⌝ }
+{
+    a as u64 + 256 * (b as u64 + 256 * (c as u64 + 256 * (d as u64 + 256 * (e as u64))))
+}
+
+// The address signal at a place, of the octet that holds it.
+fn half_of(octet: u8, place: usize) -> u8
+    ensures { λ r. ⌜ r ≡ cond (eqb (place % 2) 0) (octet % 16) (octet / 16) ⌝ }
+{
+    if place % 2 == 0 {
+        octet % 16
+    } else {
+        octet / 16
+    }
+}
+
+// The address signals of an IAM.
+fn codes_in(octets: &[u8], count: usize) -> [u8; 15]
+    requires { ⌜ (count ≤ 15) × (9 + half count ≤ length (now octets)) ⌝ }
+    ensures { λ r. ⌜ r ≡ over (take count (halves (drop 9 (now (octets .entry))))) noCodes ⌝ }
+{
+    let mut codes = [0u8; 15];
+    let mut i = 0;
+    while i < count {
+        codes[i] = half_of(octets[9 + i / 2], i);
+        i += 1;
+    }
+    codes
+}
+
+fn refused(n: u8) -> Fields
+    ensures { λ r. ⌜ r ≡ refused n ⌝ }
+{
+    Fields {
+        refusal: n,
+        circuit: Cic(0),
+        heading: 0,
+        acm: 0,
+        category: 0,
+        indicators: 0,
+        count: 0,
+        address: [0; 15],
+    }
+}
+
+fn plain_fields(circuit: Cic, heading: u8, acm: u8) -> Fields
+    ensures { λ r. ⌜ r ≡ plainFields (circuit .0) heading acm ⌝ }
+{
+    Fields {
+        refusal: 0,
+        circuit: circuit,
+        heading: heading,
+        acm: acm,
+        category: 0,
+        indicators: 0,
+        count: 0,
+        address: [0; 15],
+    }
+}
+
+// Two octets as a number.
+fn word_of(low: u8, high: u8) -> u32
+    ensures { λ r. ⌜ r ≡ numberOf (low ∷ high ∷ []) ⌝ }
+{
+    low as u32 + 256 * (high as u32)
+}
+
+// An IAM whose label is in order.
+fn read_iam(records: usize, circuit: Cic, octets: &[u8]) -> Fields
+    requires { ⌜ circuit .0 ≡ cicIn (now octets) ⌝ }
+    ensures { λ r. ⌜ r ≡ bodyOf records 0x11 (now (octets .entry)) ⌝ }
+{
+    if octets.len() < 9 {
+        return refused(7);
+    }
+    let word = word_of(octets[7], octets[8]);
+    let count = (word / 4096) as usize;
+    if count == 0 {
+        return refused(10);
+    }
+    if octets.len() != 9 + (count + 1) / 2 {
+        return refused(7);
+    }
+    let codes = codes_in(octets, count);
+    if formats::bad_codes(&codes[..count]) {
+        return refused(10);
+    }
+    if records <= circuit.0 as usize {
+        return refused(2);
+    }
+    Fields {
+        refusal: 0,
+        circuit: circuit,
+        heading: 0x11,
+        acm: 0,
+        category: octets[6] % 64,
+        indicators: word % 2048,
+        count: count as u8,
+        address: codes,
+    }
+}
+
+// A message whose label is in order.
+fn read_body(records: usize, circuit: Cic, octets: &[u8]) -> Fields
+    requires { ⌜ (6 ≤ length (now octets)) × (circuit .0 ≡ cicIn (now octets)) ⌝ }
+    ensures { λ r. ⌜ r ≡ bodyOf records (headingIn (now (octets .entry))) (now (octets .entry)) ⌝ }
+{
+    let heading = octets[5];
+    if heading == 0x11 {
+        return read_iam(records, circuit, octets);
+    }
+    let fixed = formats::fixed_length(heading as u32);
+    if fixed == 0 {
+        return refused(9);
+    }
+    if octets.len() != fixed {
+        return refused(7);
+    }
+    if records <= circuit.0 as usize {
+        return refused(2);
+    }
+    if heading == 0x14 {
+        return plain_fields(circuit, heading, octets[6] % 64);
+    }
+    plain_fields(circuit, heading, 0)
+}
+
+// Whether a label is not for us from the far end.
+fn elsewhere(own: PointCode, far: PointCode, label: u64) -> bool
+    ensures { λ r. ⌜ r ≡ (not (eqb (label % 2 ^ 14) (own .0)) || not (eqb (label / 2 ^ 14 % 2 ^ 14) (far .0))) ⌝ }
+{
+    if label % 16384 != own.0 as u64 {
+        return true;
+    }
+    label / 16384 % 16384 != far.0 as u64
+}
+
+// What the octets that arrived from the far end say by numbers, in a group with so many records.
+pub fn read_fields(own: PointCode, far: PointCode, records: usize, octets: &[u8]) -> Fields
+    ensures { λ r. ⌜ r ≡ fieldsOf (own .0) (far .0) records (now (octets .entry)) ⌝ }
+{
+    if circuit::bad_group(own, far, records) {
+        return refused(1);
+    }
+    if octets.len() < 6 {
+        return refused(7);
+    }
+    let label = label_of(octets[0], octets[1], octets[2], octets[3], octets[4]);
+    if elsewhere(own, far, label) {
+        return refused(8);
+    }
+    read_body(records, Cic((label / 268435456) as u32), octets)
+}
+
+// The same as a message that names its signal.
+pub fn read(own: PointCode, far: PointCode, records: usize, octets: &[u8]) -> Reading
+    ensures { λ r. ⌜ r ≡ reading (own .0) (far .0) records (now (octets .entry)) ⌝ }
+{
+    let f = read_fields(own, far, records, octets);
+    let circuit = f.circuit;
+    let address = f.address;
+    let signal = codes::signal_of(f.heading as u32, f.acm);
+    let message = Message {
+        circuit: circuit,
+        signal: signal,
+        category: f.category,
+        indicators: f.indicators,
+        count: f.count,
+        address: address,
+    };
+    Reading {
+        refusal: f.refusal,
+        message: message,
+    }
+}

@@ -1,0 +1,171 @@
+-- The cases of the writer: what is answered, and what the buffer holds, where each test stands.
+-- Assumes nothing.
+use mathlib.Core.Path.{_≡_, refl, sym, ap, _∙_}
+use mathlib.Core.Bool.{Bool, true, false, cond, not, _&&_}
+use mathlib.Core.List.{List, [], _∷_}
+use Prim.Native.Nat.{ℕ, _+_, _*_, _-_, _<_, _≤_}
+use native.Mathlib.Omega.{arith}
+use borrow.Author.Tests.{lt-ltb, le-ltb, eq-eqb, ne-eqb}
+use lib.Dec.{ltb}
+use lib.ListN.{length}
+use lib.Seq.{paste}
+use Rattle.circuit.specs.Groups.{badGroup}
+use Rattle.writer.specs.declared.Written.{Written}
+use Rattle.formats.specs.Refusals.{refuse, firstOf}
+use Rattle.formats.specs.Octets.{pairs, over}
+use Rattle.formats.specs.Messages.{listed, isIam, isAcm, fixedLength, half}
+use Rattle.writer.specs.Writing.{Said, tooLarge, badAddress, labelOf, plainOctets, acmOctets, iamHead, iamOctets, shortOctets, octetsOf, Outcome, unwritten, putting, writing, iamWriting, shortWriting}
+use Rattle.writer.proofs.Pairs.{length-pairs}
+use Rattle.formats.proofs.Stores.{paste-behind}
+
+-- the outcome of a refusal
+abbrev pub stopped : ℕ → List ℕ → Outcome
+stopped n buffer = record { answer = unwritten n; buffer = buffer }
+
+-- an answer and a buffer that an outcome has
+pub meets : {o p : Outcome} {r : Written} {l : List ℕ} → o ≡ p → r ≡ p .answer → l ≡ p .buffer → (r ≡ o .answer) × (l ≡ o .buffer)
+meets e a b = (a ∙ ap (λ (o : Outcome). o .answer) (sym e), b ∙ ap (λ (o : Outcome). o .buffer) (sym e))
+
+-- the answer by the writer's tests
+abbrev judged : List ℕ → List ℕ → Bool → Bool → Bool → Bool → Bool → Bool → Outcome
+judged xs buffer b₀ b₁ b₂ b₃ b₄ b₅ = putting (firstOf (refuse 1 b₀ ∷ refuse 2 b₁ ∷ refuse 9 b₂ ∷ refuse 3 b₃ ∷ refuse 10 b₄ ∷ refuse 11 b₅ ∷ [])) xs buffer
+
+module _ (xs buffer : List ℕ) (b₀ b₁ b₂ b₃ b₄ b₅ : Bool) where
+  at0 : b₀ ≡ true → judged xs buffer b₀ b₁ b₂ b₃ b₄ b₅ ≡ stopped 1 buffer
+  at0 e = rw e
+
+  at1 : b₀ ≡ false → b₁ ≡ true → judged xs buffer b₀ b₁ b₂ b₃ b₄ b₅ ≡ stopped 2 buffer
+  at1 e₀ e = rw (e₀, e)
+
+  at2 : b₀ ≡ false → b₁ ≡ false → b₂ ≡ true → judged xs buffer b₀ b₁ b₂ b₃ b₄ b₅ ≡ stopped 9 buffer
+  at2 e₀ e₁ e = rw (e₀, e₁, e)
+
+  at3 : b₀ ≡ false → b₁ ≡ false → b₂ ≡ false → b₃ ≡ true → judged xs buffer b₀ b₁ b₂ b₃ b₄ b₅ ≡ stopped 3 buffer
+  at3 e₀ e₁ e₂ e = rw (e₀, e₁, e₂, e)
+
+  past : b₀ ≡ false → b₁ ≡ false → b₂ ≡ false → b₃ ≡ false → judged xs buffer b₀ b₁ b₂ b₃ b₄ b₅ ≡ putting (firstOf (refuse 10 b₄ ∷ refuse 11 b₅ ∷ [])) xs buffer
+  past e₀ e₁ e₂ e₃ = rw (e₀, e₁, e₂, e₃)
+
+module _ (own far records : ℕ) (m : Said) (buffer : List ℕ) where
+  abbrev xs : List ℕ
+  xs = octetsOf own far m
+
+  abbrev t₀ : Bool
+  t₀ = badGroup own far records
+
+  abbrev t₁ : Bool
+  t₁ = ltb 4095 (m .cic)
+
+  abbrev t₂ : Bool
+  t₂ = not (listed (m .heading))
+
+  abbrev t₄ : Bool
+  t₄ = isIam (m .heading) && badAddress (m .address)
+
+  abbrev t₅ : Bool
+  t₅ = ltb (length buffer) (length (octetsOf own far m))
+
+  pub no-group : badGroup own far records ≡ true → writing own far records m buffer ≡ stopped 1 buffer
+  unfolding writing
+  no-group e = at0 xs buffer t₀ t₁ t₂ (tooLarge m) t₄ t₅ e
+
+  module _ (e₀ : badGroup own far records ≡ false) where
+    pub no-circuit : 4095 < m .cic → writing own far records m buffer ≡ stopped 2 buffer
+    unfolding writing
+    no-circuit h = at1 xs buffer t₀ t₁ t₂ (tooLarge m) t₄ t₅ e₀ (lt-ltb _ _ h)
+
+    module _ (h : m .cic ≤ 4095) where
+      pub no-heading : listed (m .heading) ≡ false → writing own far records m buffer ≡ stopped 9 buffer
+      unfolding writing
+      no-heading e = at2 xs buffer t₀ t₁ t₂ (tooLarge m) t₄ t₅ e₀ (le-ltb _ _ h) (ap not e)
+
+      module _ (l : listed (m .heading) ≡ true) where
+        pub no-field : tooLarge m ≡ true → writing own far records m buffer ≡ stopped 3 buffer
+        unfolding writing
+        no-field e = at3 xs buffer t₀ t₁ t₂ (tooLarge m) t₄ t₅ e₀ (le-ltb _ _ h) (ap not l) e
+
+        module _ (f : tooLarge m ≡ false) where
+          past-fields : writing own far records m buffer ≡ putting (firstOf (refuse 10 t₄ ∷ refuse 11 t₅ ∷ [])) xs buffer
+          unfolding writing
+          past-fields = past xs buffer t₀ t₁ t₂ (tooLarge m) t₄ t₅ e₀ (le-ltb _ _ h) (ap not l) f
+
+          pub an-iam : m .heading ≡ 0x11 → writing own far records m buffer ≡ iamWriting (labelOf own far (m .cic)) (m .category) (m .indicators) (m .address) buffer
+          unfolding octetsOf iamWriting
+          an-iam e = past-fields ∙ ap (λ (b : Bool). putting (firstOf (refuse 10 (b && badAddress (m .address)) ∷ refuse 11 (ltb (length buffer) (length (cond b i s))) ∷ [])) (cond b i s) buffer) (eq-eqb (m .heading) 0x11 e)
+            where
+              i : List ℕ
+              i = iamOctets (labelOf own far (m .cic)) (m .category) (m .indicators) (m .address)
+
+              s : List ℕ
+              s = shortOctets (labelOf own far (m .cic)) (m .heading) (m .acm)
+
+          pub no-iam : (m .heading ≡ 0x11 → ⊥) → writing own far records m buffer ≡ shortWriting (labelOf own far (m .cic)) (m .heading) (m .acm) buffer
+          unfolding octetsOf shortWriting
+          no-iam e = past-fields ∙ ap (λ (b : Bool). putting (firstOf (refuse 10 (b && badAddress (m .address)) ∷ refuse 11 (ltb (length buffer) (length (cond b i s))) ∷ [])) (cond b i s) buffer) (ne-eqb (m .heading) 0x11 e)
+            where
+              i : List ℕ
+              i = iamOctets (labelOf own far (m .cic)) (m .category) (m .indicators) (m .address)
+
+              s : List ℕ
+              s = shortOctets (labelOf own far (m .cic)) (m .heading) (m .acm)
+
+-- the rest of an IAM
+module _ (label category indicators : ℕ) (address buffer : List ℕ) where
+  abbrev written : List ℕ
+  written = iamOctets label category indicators address
+
+  length-iam : length written ≡ 9 + half (length address)
+  length-iam = let e = length-pairs address in omega arith
+
+  abbrev tried : Bool → Bool → Outcome
+  tried b₀ b₁ = putting (firstOf (refuse 10 b₀ ∷ refuse 11 b₁ ∷ [])) written buffer
+
+  pub iam-spoilt : badAddress address ≡ true → iamWriting label category indicators address buffer ≡ stopped 10 buffer
+  unfolding iamWriting
+  iam-spoilt e = ap (λ (b : Bool). tried b (ltb (length buffer) (length written))) e
+
+  module _ (e : badAddress address ≡ false) where
+    pub iam-tight : length buffer < 9 + half (length address) → iamWriting label category indicators address buffer ≡ stopped 11 buffer
+    unfolding iamWriting
+    iam-tight h = ap (λ (b : Bool). tried b (ltb (length buffer) (length written))) e ∙ ap (tried false) (lt-ltb (length buffer) (length written) (omega (arith, length-iam)))
+
+    pub iam-put : 9 + half (length address) ≤ length buffer → (now after : List ℕ) → now ≡ over (iamHead label category (indicators + 4096 * length address)) buffer
+        → after ≡ paste now 9 (pairs address) (half (length address))
+        → iamWriting label category indicators address buffer ≡ record { answer = record { refusal = 0; length = 9 + half (length address) }; buffer = after }
+    unfolding iamWriting
+    iam-put h now after p q =
+        ap (λ (b : Bool). tried b (ltb (length buffer) (length written))) e ∙ ap (tried false) (le-ltb (length buffer) (length written) (omega (arith, length-iam)))
+        ∙ ap (λ (n : ℕ). done n (over written buffer)) length-iam
+        ∙ ap (done (9 + half (length address))) (sym (q ∙ ap (λ (l : List ℕ). paste l 9 (pairs address) (half (length address))) p ∙ ap (paste (over head buffer) 9 (pairs address)) (sym (length-pairs address)) ∙ paste-behind head (pairs address) buffer))
+      where
+        head : List ℕ
+        head = iamHead label category (indicators + 4096 * length address)
+
+        done : ℕ → List ℕ → Outcome
+        done n l = record { answer = record { refusal = 0; length = n }; buffer = l }
+
+-- the rest of any other message
+module _ (label heading acm : ℕ) (buffer : List ℕ) where
+  abbrev tested : List ℕ → Bool → Outcome
+  tested xs b = putting (firstOf (refuse 11 b ∷ [])) xs buffer
+
+  length-short : isIam heading ≡ false → length (shortOctets label heading acm) ≡ fixedLength heading
+  length-short e = go (isAcm heading) ∙ sym (ap (λ (b : Bool). cond b 9 (cond (isAcm heading) 7 6)) e)
+    where
+      go : (b : Bool) → length (cond b (acmOctets label acm) (plainOctets label heading)) ≡ cond b 7 6
+      go true = refl
+      go false = refl
+
+  pub short-tight : isIam heading ≡ false → length buffer < fixedLength heading → shortWriting label heading acm buffer ≡ stopped 11 buffer
+  unfolding shortWriting
+  short-tight e h = ap (tested (shortOctets label heading acm)) (lt-ltb (length buffer) (length (shortOctets label heading acm)) (rw (length-short e) h))
+
+  short-is : (b : Bool) → isAcm heading ≡ b → shortWriting label heading acm buffer ≡ tested (cond b (acmOctets label acm) (plainOctets label heading)) (ltb (length buffer) (length (cond b (acmOctets label acm) (plainOctets label heading))))
+  unfolding shortWriting
+  short-is b e = ap (λ (b : Bool). tested (cond b (acmOctets label acm) (plainOctets label heading)) (ltb (length buffer) (length (cond b (acmOctets label acm) (plainOctets label heading))))) e
+
+  pub short-acm : heading ≡ 0x14 → 7 ≤ length buffer → shortWriting label heading acm buffer ≡ record { answer = record { refusal = 0; length = 7 }; buffer = over (acmOctets label acm) buffer }
+  short-acm e h = short-is true (eq-eqb heading 0x14 e) ∙ ap (tested (acmOctets label acm)) (le-ltb _ _ h)
+
+  pub short-plain : (heading ≡ 0x14 → ⊥) → 6 ≤ length buffer → shortWriting label heading acm buffer ≡ record { answer = record { refusal = 0; length = 6 }; buffer = over (plainOctets label heading) buffer }
+  short-plain e h = short-is false (ne-eqb heading 0x14 e) ∙ ap (tested (plainOctets label heading)) (le-ltb _ _ h)
