@@ -8,6 +8,7 @@ use native.Mathlib.Omega.{arith}
 use borrow.Author.Tests.{lt-ltb, le-ltb, ltb-false, eq-eqb, ne-eqb}
 use lib.Dec.{T, eqb, ltb}
 use lib.ListN.{length}
+use Rattle.circuit.specs.Groups.{none}
 use Rattle.formats.specs.Octets.{badCodes, aboveFifteen}
 use Rattle.formats.specs.Messages.{isIam}
 use Rattle.writer.specs.Writing.{Said, acmLimit, categoryLimit, indicatorsLimit, tooLarge, badAddress}
@@ -67,12 +68,6 @@ module _ (m : Said) where
   no-code e f g i = sym (ap (λ (t : Bool). cond t (aboveFifteen (m .address)) (ltb 0 (length (m .address)))) i) ∙ fourth a b c d e f g
 
 -- where none of the tests of the fields holds, each field fits
-none : (a b c d : Bool) → (a || b || c || d) ≡ false → (a ≡ false) × (b ≡ false) × (c ≡ false) × (d ≡ false)
-none true b c d e = absurd (subst T e tt)
-none false true c d e = absurd (subst T e tt)
-none false false true d e = absurd (subst T e tt)
-none false false false d e = (refl, refl, refl, e)
-
 module _ (m : Said) (e : tooLarge m ≡ false) where
   each : (a m ≡ false) × (b m ≡ false) × (c m ≡ false) × (d m ≡ false)
   unfolding tooLarge
