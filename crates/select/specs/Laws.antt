@@ -94,33 +94,45 @@ module _ (own far : ℕ) (table : List ℕ) where
   best₂ e = isTheBest (order false table) n e
 
   -- a refusal reports circuit 0 and count 0
-  pub reportsNone : (s .refusal ≡ 0 → ⊥) → (s .cic .0 ≡ 0) × (s .looked ≡ 0)
+  abbrev pub ReportsNone : Selected → Type 0
+  ReportsNone s = (s .refusal ≡ 0 → ⊥) → (s .cic .0 ≡ 0) × (s .looked ≡ 0)
+
+  pub reportsNone : ReportsNone s
   reportsNone =
-      byCases (λ s. (s .refusal ≡ 0 → ⊥) → (s .cic .0 ≡ 0) × (s .looked ≡ 0))
+      byCases ReportsNone
       (λ g r. (refl, refl)) (λ g a r. (refl, refl)) (λ g a o r. absurd (r refl)) (λ g a o t r. absurd (r refl)) (λ g a o t r. (refl, refl))
 
   -- the chosen circuit qualifies
-  pub chosenQualifies : s .refusal ≡ 0 → (s .cic .0 < n) × T (qualifies table (s .cic .0))
+  abbrev pub Qualifies : Selected → Type 0
+  Qualifies s = s .refusal ≡ 0 → (s .cic .0 < n) × T (qualifies table (s .cic .0))
+
+  pub chosenQualifies : Qualifies s
   chosenQualifies =
-      byCases (λ s. s .refusal ≡ 0 → (s .cic .0 < n) × T (qualifies table (s .cic .0)))
+      byCases Qualifies
       (λ g r. absurd (omega arith)) (λ g a r. absurd (omega arith))
       (λ g a o r. (best₁ o .below, left (qualifies table (best n (ours mine table) (earlier table))) _ (best₁ o .is)))
       (λ g a o t r. (best₂ t .below, left (qualifies table (best n (theirs mine table) (later table))) _ (best₂ t .is)))
       (λ g a o t r. absurd (omega arith))
 
   -- where one of ours qualifies, one of ours is chosen, and none that qualifies was released before it
-  pub ofOurs : s .refusal ≡ 0 → (j : ℕ) → j < n → T (ours mine table j) → T (controls own far (s .cic .0)) × Earlier table (s .cic .0) j
+  abbrev pub OfOurs : Selected → Type 0
+  OfOurs s = s .refusal ≡ 0 → (j : ℕ) → j < n → T (ours mine table j) → T (controls own far (s .cic .0)) × Earlier table (s .cic .0) j
+
+  pub ofOurs : OfOurs s
   ofOurs =
-      byCases (λ s. s .refusal ≡ 0 → (j : ℕ) → j < n → T (ours mine table j) → T (controls own far (s .cic .0)) × Earlier table (s .cic .0) j)
+      byCases OfOurs
       (λ g r. absurd (omega arith)) (λ g a r. absurd (omega arith))
       (λ g a o r j h t. (right (qualifies table (best n (ours mine table) (earlier table))) _ (best₁ o .is), isEarlier table _ j (best₁ o .goesFirst j h t)))
       (λ g a o u r j h t. absurd (noneAt n (ours mine table) o j h t))
       (λ g a o u r. absurd (omega arith))
 
   -- one of theirs is chosen only if none of ours qualifies, and none that qualifies was released after it
-  pub ofTheirs : s .refusal ≡ 0 → (T (controls own far (s .cic .0)) → ⊥) → (j : ℕ) → j < n → T (qualifies table j) → (T (controls own far j) → ⊥) × Later table (s .cic .0) j
+  abbrev pub OfTheirs : Selected → Type 0
+  OfTheirs s = s .refusal ≡ 0 → (T (controls own far (s .cic .0)) → ⊥) → (j : ℕ) → j < n → T (qualifies table j) → (T (controls own far j) → ⊥) × Later table (s .cic .0) j
+
+  pub ofTheirs : OfTheirs s
   ofTheirs =
-      byCases (λ s. s .refusal ≡ 0 → (T (controls own far (s .cic .0)) → ⊥) → (j : ℕ) → j < n → T (qualifies table j) → (T (controls own far j) → ⊥) × Later table (s .cic .0) j)
+      byCases OfTheirs
       (λ g r. absurd (omega arith)) (λ g a r. absurd (omega arith))
       (λ g a o r other. absurd (other (right (qualifies table (best n (ours mine table) (earlier table))) _ (best₁ o .is))))
       (λ g a o u r other j h t.
@@ -129,9 +141,12 @@ module _ (own far : ℕ) (table : List ℕ) where
       (λ g a o u r. absurd (omega arith))
 
   -- each refusal is given exactly when document 02 says: 1; then 12 for any bad record; then 14 if no circuit qualifies
-  pub refusals : s .refusal ≡ cond (badGroup own far n) 1 (cond (some n (bad table)) 12 (cond (some n (qualifies table)) 0 14))
+  abbrev pub Refuses : Selected → Type 0
+  Refuses s = s .refusal ≡ cond (badGroup own far n) 1 (cond (some n (bad table)) 12 (cond (some n (qualifies table)) 0 14))
+
+  pub refusals : Refuses s
   refusals =
-      byCases (λ s. s .refusal ≡ cond (badGroup own far n) 1 (cond (some n (bad table)) 12 (cond (some n (qualifies table)) 0 14)))
+      byCases Refuses
       (λ g. rw g) (λ g a. rw (g, a))
       (λ g a o. rw (g, a, someAt n (qualifies table) _ (best₁ o .below) (left (qualifies table (best n (ours mine table) (earlier table))) _ (best₁ o .is))))
       (λ g a o t. rw (g, a, someAt n (qualifies table) _ (best₂ t .below) (left (qualifies table (best n (theirs mine table) (later table))) _ (best₂ t .is))))
@@ -142,9 +157,12 @@ module _ (own far : ℕ) (table : List ℕ) where
           noneAt n (theirs mine table) t j h (both (qualifies table j) _ q (not-T (controls own far j) (λ c. noneAt n (ours mine table) o j h (both (qualifies table j) _ q c))))
 
   -- the count: the whole table, unless one of ours that qualifies has rank 0: then the first of these is chosen, and the count is its number plus one
-  pub counts : s .refusal ≡ 0 → s .looked ≡ cond (some n (stops mine table)) (s .cic .0 + 1) n
+  abbrev pub Counts : Selected → Type 0
+  Counts s = s .refusal ≡ 0 → s .looked ≡ cond (some n (stops mine table)) (s .cic .0 + 1) n
+
+  pub counts : Counts s
   counts =
-      byCases (λ s. s .refusal ≡ 0 → s .looked ≡ cond (some n (stops mine table)) (s .cic .0 + 1) n)
+      byCases Counts
       (λ g r. absurd (omega arith)) (λ g a r. absurd (omega arith)) (λ g a o r. go (some n (stops mine table)) refl)
       (λ g a o t r. rw (noneOf n (stops mine table) (λ j h q. noneAt n (ours mine table) o j h (left (ours mine table j) _ q))))
       (λ g a o t r. absurd (omega arith))
@@ -160,9 +178,12 @@ module _ (own far : ℕ) (table : List ℕ) where
       go false e = refl
 
   -- the numbers are small
-  pub small : (s .cic .0 < 4096) × (s .looked ≤ 4096)
+  abbrev pub Small : Selected → Type 0
+  Small s = (s .cic .0 < 4096) × (s .looked ≤ 4096)
+
+  pub small : Small s
   small =
-      byCases (λ s. (s .cic .0 < 4096) × (s .looked ≤ 4096))
+      byCases Small
       (λ g. (omega arith, omega arith)) (λ g a. (omega arith, omega arith))
       (λ g a o. (omega (arith, best₁ o .below, atMost4096 own far n g), omega (arith, whole (some n (stops mine table)) refl, atMost4096 own far n g)))
       (λ g a o t. (omega (arith, best₂ t .below, atMost4096 own far n g), omega (arith, atMost4096 own far n g)))
