@@ -1,11 +1,11 @@
 -- The first number below n that passes a test, and whether there is one; of those that pass, the one that goes before all of them.
 -- Assumes nothing.
-use mathlib.Core.Path.{_≡_, refl, sym, ap}
+use mathlib.Core.Path.{_≡_, refl}
 use mathlib.Core.Bool.{Bool, true, false, cond, _&&_}
 use Prim.Native.Nat.{ℕ, zero, suc, _<_, _≤_}
 use native.Mathlib.Omega.{arith}
 use lib.Dec.{T, ltb}
-use borrow.Author.Tests.{lt-ltb, le-ltb, ltb-true, ltb-false}
+use borrow.Author.Tests.{ltb-true, ltb-false}
 use Rattle.circuit.specs.Every.{left, right, both, implies, then, given, eachBelow, atBelow, eachOf}
 
 -- n where there is none

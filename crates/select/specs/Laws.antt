@@ -1,13 +1,13 @@
 -- What holds of every choice, in the words of document 02 (T-02) and of Q.724, 2.4, method 2.
 -- Assumes nothing.
 use mathlib.Core.Path.{_≡_, refl, sym, _∙_}
-use mathlib.Core.Bool.{Bool, true, false, not, cond, _&&_}
+use mathlib.Core.Bool.{Bool, true, false, not, cond}
 use mathlib.Core.List.{List}
 use Prim.Native.Nat.{ℕ, _+_, _<_, _≤_}
 use native.Mathlib.Omega.{arith}
-use lib.Dec.{T, eqb, leb, ltb, not-T}
+use lib.Dec.{T, leb, leb→le, ltb→lt, T-not, not-T}
 use lib.ListN.{length}
-use borrow.Author.Tests.{eqb-true, ltb-true, not-true, lt-leb, leb-true, le-ltb}
+use borrow.Author.Tests.{ltb-true, lt-leb, le-ltb}
 use Rattle.circuit.specs.declared.Command.the-variants.{Seize}
 use Rattle.circuit.specs.declared.Event.the-variants.{Ordered}
 use Rattle.circuit.specs.Records.{valid}
@@ -19,9 +19,9 @@ use Rattle.group.specs.Table.{stepIn}
 use Rattle.group.specs.Refusals.{refusalIn}
 use Rattle.group.specs.Laws as Group
 use Rattle.select.specs.declared.Selected.{Selected}
-use Rattle.select.specs.First.{first, some, best, firstAt, firstHolds, firstNot, someAt, noneOf, noneAt, Best, theBest, isTheBest}
+use Rattle.select.specs.First.{first, some, best, firstHolds, firstNot, someAt, noneOf, noneAt, Best, theBest, isTheBest}
 use Rattle.select.specs.Selection.{refused, taken, qualifies, ours, theirs, earlier, later, stops, looked, choice, bad, selectIn}
-use Rattle.select.specs.Orders.{before, lower, Ahead, Ahead.byRank, Ahead.byNumber, view, order, firstUnused}
+use Rattle.select.specs.Orders.{before, Ahead, Ahead.byRank, Ahead.byNumber, view, order, firstUnused}
 
 -- i was released before j, or with the same rank and i is not above j
 pub record Earlier (table : List ℕ) (i j : ℕ) : Type 0 where
@@ -40,14 +40,14 @@ isEarlier : (table : List ℕ) (i j : ℕ) → T (earlier table i j) → Earlier
 isEarlier table i j t = go (view (before true) (rankAt table i) (rankAt table j) i j t)
   where
     go : Ahead (before true) (rankAt table i) (rankAt table j) i j → Earlier table i j
-    go (byRank l) = let h : rankAt table i < rankAt table j = lower _ _ l in record { rank = omega arith; number = λ e. omega arith }
+    go (byRank l) = let h : rankAt table i < rankAt table j = ltb→lt _ _ l in record { rank = omega arith; number = λ e. omega arith }
     go (byNumber e h) = record { rank = omega arith; number = λ q. h }
 
 isLater : (table : List ℕ) (i j : ℕ) → T (later table i j) → Later table i j
 isLater table i j t = go (view (before false) (rankAt table i) (rankAt table j) i j t)
   where
     go : Ahead (before false) (rankAt table i) (rankAt table j) i j → Later table i j
-    go (byRank l) = let h : rankAt table j < rankAt table i = lower _ _ l in record { rank = omega arith; number = λ e. omega arith }
+    go (byRank l) = let h : rankAt table j < rankAt table i = ltb→lt _ _ l in record { rank = omega arith; number = λ e. omega arith }
     go (byNumber e h) = record { rank = omega arith; number = λ q. h }
 
 module _ (own far : ℕ) (table : List ℕ) where
@@ -208,7 +208,7 @@ module _ (own far : ℕ) (table : List ℕ) where
       go i h q w =
           let ok : allowedAt table i ≡ true = allowedIs (allowedAt table i) (λ b. noneAt n (bad table) (w .1) i h b) in
           let good : T (allowedAt table i) = rw ok tt in
-          let low : flagsAt table i ≤ 15 = leb-true _ _ (isTrue _ (left (leb (flagsAt table i) 15) (valid (recordAt table i)) good)) in
+          let low : flagsAt table i ≤ 15 = leb→le _ _ (left (leb (flagsAt table i) 15) (valid (recordAt table i)) good) in
           let v : valid (recordAt table i) ≡ true = isTrue _ (right (leb (flagsAt table i) 15) (valid (recordAt table i)) good) in
           rw (w .0, lt-leb n i h, le-ltb 15 (flagsAt table i) low, v, isTrue (qualifies table i) q)
 
@@ -217,15 +217,11 @@ pub neverMeet : (own far : ℕ) (here there : List ℕ) → (own ≡ far → ⊥
     → (i : ℕ) → i < recordsIn (length here) → T (ours (controls own far) here i) → (j : ℕ) → j < recordsIn (length there) → T (ours (controls far own) there j)
     → selectIn own far here .cic .0 ≡ selectIn far own there .cic .0 → ⊥
 neverMeet own far here there different r q i h s j l t meet =
-    onlyOne (controls own far c) (ofOurs own far here r i h s .0)
-    (rw (← oneControls own far c different) (rw meet (ofOurs far own there q j l t .0)))
+    T-not (controls own far c) (rw (← oneControls own far c different) (rw meet (ofOurs far own there q j l t .0)))
+    (ofOurs own far here r i h s .0)
   where
     c : ℕ
     c = selectIn own far here .cic .0
-
-    onlyOne : (b : Bool) → T b → T (not b) → ⊥
-    onlyOne true a d = d
-    onlyOne false a d = a
 
 -- the contract allows one answer
 pub determined : (own far : ℕ) (table : List ℕ) {a b : Selected} → a ≡ selectIn own far table → b ≡ selectIn own far table → a ≡ b

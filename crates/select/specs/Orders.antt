@@ -5,9 +5,9 @@ use mathlib.Core.Bool.{Bool, true, false, cond, _&&_, _||_}
 use mathlib.Core.List.{List}
 use Prim.Native.Nat.{ℕ, _<_, _≤_}
 use native.Mathlib.Omega.{arith}
-use lib.Dec.{T, eqb, leb, ltb}
-use borrow.Author.Tests.{eqb-true, eqb-false, eq-eqb, leb-true, leb-false, le-leb, ltb-true, ltb-false, lt-ltb}
-use Rattle.circuit.specs.Every.{left, right, both, isTrue}
+use lib.Dec.{T, eqb, leb, ltb, eqb→eq, leb→le, ltb→lt, lt→ltb, nltb→le, not-T}
+use borrow.Author.Tests.{eqb-true, eqb-false, eq-eqb, leb-true, leb-false, le-leb}
+use Rattle.circuit.specs.Every.{left, right, both}
 use Rattle.layout.specs.Layout.{rankAt}
 use Rattle.select.specs.First.{Best, Order}
 use Rattle.select.specs.Selection.{ours, earlier, stops}
@@ -29,31 +29,18 @@ pub record Strict (lt : ℕ → ℕ → Bool) : Type 0 where
   pub through : (a b c : ℕ) → T (lt a b) → T (lt b c) → T (lt a c)
   pub either : (a b : ℕ) → (T (lt a b) → ⊥) → (a ≡ b → ⊥) → T (lt b a)
 
-pub lower : (a b : ℕ) → T (ltb a b) → a < b
-lower a b t = ltb-true a b (isTrue _ t)
-
-pub isLower : (a b : ℕ) → a < b → T (ltb a b)
-isLower a b h = rw (lt-ltb a b h) tt
-
-notLower : (a b : ℕ) → (T (ltb a b) → ⊥) → b ≤ a
-notLower a b n = go (ltb a b) refl
-  where
-    go : (t : Bool) → ltb a b ≡ t → b ≤ a
-    go true e = absurd (n (rw e tt))
-    go false e = ltb-false a b e
-
 pub strict : (own : Bool) → Strict (before own)
 strict true =
     record {
-      never = λ a t. omega (arith, lower a a t);
-      through = λ a b c s t. isLower a c (omega (arith, lower a b s, lower b c t));
-      either = λ a b n d. let h : b ≤ a = notLower a b n in isLower b a (omega arith);
+      never = λ a t. omega (arith, ltb→lt a a t);
+      through = λ a b c s t. lt→ltb a c (omega (arith, ltb→lt a b s, ltb→lt b c t));
+      either = λ a b n d. lt→ltb b a (omega (arith, d, nltb→le a b (not-T (ltb a b) n)));
     }
 strict false =
     record {
-      never = λ a t. omega (arith, lower a a t);
-      through = λ a b c s t. isLower c a (omega (arith, lower b a s, lower c b t));
-      either = λ a b n d. let h : a ≤ b = notLower b a n in isLower a b (omega arith);
+      never = λ a t. omega (arith, ltb→lt a a t);
+      through = λ a b c s t. lt→ltb c a (omega (arith, ltb→lt b a s, ltb→lt c b t));
+      either = λ a b n d. lt→ltb a b (omega (arith, d, nltb→le b a (not-T (ltb b a) n)));
     }
 
 pub data Ahead (lt : ℕ → ℕ → Bool) (a b i j : ℕ) : Type 0 where
@@ -65,7 +52,7 @@ view lt a b i j t = go (lt a b) refl t
   where
     go : (p : Bool) → lt a b ≡ p → T (p || (eqb a b && leb i j)) → Ahead lt a b i j
     go true e t = byRank (rw e tt)
-    go false e t = byNumber (eqb-true a b (isTrue _ (left (eqb a b) _ t))) (leb-true i j (isTrue _ (right (eqb a b) _ t)))
+    go false e t = byNumber (eqb→eq a b (left (eqb a b) _ t)) (leb→le i j (right (eqb a b) _ t))
 
 pub aheadIs : (lt : ℕ → ℕ → Bool) (a b i j : ℕ) → Ahead lt a b i j → T (ahead lt a b i j)
 aheadIs lt a b i j (byRank t) = go (lt a b) t
@@ -115,10 +102,18 @@ module _ {lt : ℕ → ℕ → Bool} (s : Strict lt) (rank : ℕ → ℕ) where
 pub order : (own : Bool) (table : List ℕ) → Order (goes own table)
 order own table = ordered (strict own) (rankAt table)
 
+-- of two circuits the one of lower number goes first, unless the other's rank goes before
+pub lowerFirst : (own : Bool) (table : List ℕ) (c i : ℕ) → c < i → (T (before own (rankAt table i) (rankAt table c)) → ⊥) → T (goes own table c i)
+lowerFirst own table c i h n = order own table .either i c (λ t. go (view (before own) (rankAt table i) (rankAt table c) i c t))
+  where
+    go : Ahead (before own) (rankAt table i) (rankAt table c) i c → ⊥
+    go (byRank t) = n t
+    go (byNumber e l) = omega arith
+
 -- of ours, the first that is unused goes before all others
 module _ (mine : ℕ → Bool) (table : List ℕ) (n i : ℕ) (h : i < n) (here : T (stops mine table i)) (before : (j : ℕ) → j < i → T (stops mine table j) → ⊥) where
   unused : rankAt table i ≡ 0
-  unused = eqb-true _ _ (isTrue _ (right (ours mine table i) _ here))
+  unused = eqb→eq _ _ (right (ours mine table i) _ here)
 
   pub firstUnused : Best (ours mine table) (earlier table) n i
   firstUnused = record { below = h; is = left (ours mine table i) _ here; goesFirst = λ j l t. go j t (eqb (rankAt table j) 0) refl }
@@ -132,4 +127,4 @@ module _ (mine : ℕ → Bool) (table : List ℕ) (n i : ℕ) (h : i < n) (here 
 
       go : (j : ℕ) → T (ours mine table j) → (b : Bool) → eqb (rankAt table j) 0 ≡ b → T (earlier table i j)
       go j t true e = tied j t (eqb-true _ _ e) (leb i j) refl
-      go j t false e = let q : rankAt table j ≡ 0 → ⊥ = eqb-false _ _ e in to j (byRank (isLower (rankAt table i) (rankAt table j) (omega (arith, unused))))
+      go j t false e = let q : rankAt table j ≡ 0 → ⊥ = eqb-false _ _ e in to j (byRank (lt→ltb (rankAt table i) (rankAt table j) (omega (arith, unused))))

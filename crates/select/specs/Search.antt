@@ -5,16 +5,16 @@ use mathlib.Core.Bool.{Bool, true, false, not, cond, _&&_, _||_}
 use mathlib.Core.List.{List}
 use Prim.Native.Nat.{ℕ, suc, _+_, _%_, _<_, _≤_}
 use native.Mathlib.Omega.{arith}
-use lib.Dec.{T, eqb, leb, ltb, not-T}
-use borrow.Author.Tests.{not-true, not-false, eqb-true, eqb-false, eq-eqb, ne-eqb, leb-true, leb-false, le-leb, lt-leb, ltb-true, ltb-false, lt-ltb, le-ltb}
+use lib.Dec.{T, eqb, leb, ltb, eqb→eq, leb→le, ltb→lt, lt→ltb}
+use borrow.Author.Tests.{not-true, not-false, eqb-true, eqb-false, ne-eqb, leb-false, le-leb}
 use lib.ListN.{length}
 use Rattle.circuit.specs.Groups.{badGroup, byParity, controls}
-use Rattle.circuit.specs.Every.{left, right, both, isTrue}
+use Rattle.circuit.specs.Every.{left, right, both}
 use Rattle.layout.specs.declared.Stored.{Stored}
 use Rattle.layout.specs.Layout.{recordsIn, stateAt, flagsAt, rankAt, allowed, allowedAt, stored, storedAt, storedIn}
 use Rattle.select.specs.declared.Selected.{Selected}
-use Rattle.select.specs.First.{first, some, best, firstAt, firstSame, someAt, noneOf, noneAt, Best, Order, theBest, starts, takes, stays, withLast}
-use Rattle.select.specs.Orders.{before, isLower, Ahead.byRank, Ahead.byNumber, aheadIs, order, firstUnused}
+use Rattle.select.specs.First.{some, firstAt, firstSame, someAt, noneOf, Best, theBest, starts, takes, stays, withLast}
+use Rattle.select.specs.Orders.{before, Ahead.byRank, aheadIs, order, lowerFirst, firstUnused}
 use Rattle.select.specs.Selection.{refused, taken, free, ours, theirs, earlier, later, stops, looked, choice, bad, selectIn}
 
 -- a bad record from one on
@@ -72,7 +72,7 @@ module _ (table : List ℕ) (from : ℕ) where
 
   pub goodEnd : {i n : ℕ} → GoodFrom table from i → n ≤ i → true ≡ not (some n (badFrom table from))
   goodEnd {i} {n} g h =
-      rw (noneOf n (badFrom table from) (λ j l t. g .good j (leb-true from j (isTrue _ (left (leb from j) _ t))) (omega arith) (right (leb from j) _ t)))
+      rw (noneOf n (badFrom table from) (λ j l t. g .good j (leb→le from j (left (leb from j) _ t)) (omega arith) (right (leb from j) _ t)))
 
 -- while none of ours is found, after i of n records: circuit c with rank r is the best of theirs, n stands for none
 pub record Held (table : List ℕ) (among : ℕ → Bool) (n i c r : ℕ) : Type 0 where
@@ -99,19 +99,13 @@ module _ (table : List ℕ) (among : ℕ → Bool) (n : ℕ) {i c r : ℕ} (h : 
     heldStays : (eqb c n || ltb r rank) ≡ false → Held table among n (suc i) c r
     heldStays e = go (eqb c n) refl e
       where
-        behind : (c ≡ n → ⊥) → rank ≤ r → (b : Bool) → eqb (rankAt table c) (rankAt table i) ≡ b → T (later table c i)
-        behind some d true q = let l : c < i = h .best some .below in aheadIs (before false) (rankAt table c) (rankAt table i) c i (byNumber (eqb-true _ _ q) (omega arith))
-        behind some d false q =
-            let other : rankAt table c ≡ rankAt table i → ⊥ = eqb-false _ _ q in
-            aheadIs (before false) (rankAt table c) (rankAt table i) c i (byRank (isLower (rankAt table i) (rankAt table c) (omega (arith, d, is, h .rank some))))
-
         go : (b : Bool) → eqb c n ≡ b → (b || ltb r rank) ≡ false → Held table among n (suc i) c r
         go true q e = absurd (subst T e tt)
         go false q e =
             let some : c ≡ n → ⊥ = eqb-false c n q in
             record {
               none = λ d. absurd (some d);
-              best = λ d. stays (order false table) (h .best some) (λ s. behind some (ltb-false r rank e) (eqb (rankAt table c) (rankAt table i)) refl);
+              best = λ d. stays (order false table) (h .best some) (λ s. lowerFirst false table c i (h .best some .below) (λ t. rw (← is, ← h .rank some, e) at t));
               rank = h .rank;
             }
 
@@ -144,12 +138,12 @@ module _ (mine : ℕ → Bool) (table : List ℕ) {i o p : ℕ} (l : Led mine ta
     among = rw (is, e) tt
 
     goesOn : (j : ℕ) → j < suc i → T (stops mine table j) → ⊥
-    goesOn = withLast i (λ j. T (stops mine table j) → ⊥) (l .on) (λ t. used (r ∙ eqb-true _ _ (isTrue _ (right (ours mine table i) _ t))))
+    goesOn = withLast i (λ j. T (stops mine table j) → ⊥) (l .on) (λ t. used (r ∙ eqb→eq _ _ (right (ours mine table i) _ t)))
 
     pub ledNew : rank < p → Led mine table (suc i) i rank
     ledNew h =
         record {
-          best = takes (order true table) (l .best) among (aheadIs ltb (rankAt table i) (rankAt table o) i o (byRank (isLower (rankAt table i) (rankAt table o) (rw (← r, ← l .rank) h))));
+          best = takes (order true table) (l .best) among (aheadIs ltb (rankAt table i) (rankAt table o) i o (byRank (lt→ltb (rankAt table i) (rankAt table o) (rw (← r, ← l .rank) h))));
           rank = r;
           on = goesOn;
         }
@@ -157,16 +151,10 @@ module _ (mine : ℕ → Bool) (table : List ℕ) {i o p : ℕ} (l : Led mine ta
     pub ledStays : p ≤ rank → Led mine table (suc i) o p
     ledStays h =
         record {
-          best = stays (order true table) (l .best) (λ t. behind (eqb (rankAt table o) (rankAt table i)) refl);
+          best = stays (order true table) (l .best) (λ t. lowerFirst true table o i (l .best .below) (λ s. omega (arith, h, r, l .rank, ltb→lt (rankAt table i) (rankAt table o) s)));
           rank = l .rank;
           on = goesOn;
         }
-      where
-        behind : (b : Bool) → eqb (rankAt table o) (rankAt table i) ≡ b → T (earlier table o i)
-        behind true q = let b : o < i = l .best .below in aheadIs ltb (rankAt table o) (rankAt table i) o i (byNumber (eqb-true _ _ q) (omega arith))
-        behind false q =
-            let d : rankAt table o ≡ rankAt table i → ⊥ = eqb-false _ _ q in
-            aheadIs ltb (rankAt table o) (rankAt table i) o i (byRank (isLower (rankAt table o) (rankAt table i) (omega (arith, h, r, l .rank))))
 
 -- every second circuit is ours
 pub everySecond : (first : ℕ) (table : List ℕ) {i o p : ℕ} → i % 2 ≡ first → Led (byParity first) table (suc i) o p → Led (byParity first) table (i + 2) o p
@@ -228,7 +216,7 @@ module _ (mine : ℕ → Bool) (table : List ℕ) where
           record {
             best = starts (order true table) (s .none) (rw (is, e) tt);
             rank = r;
-            on = withLast i (λ j. T (stops mine table j) → ⊥) (noStop s) (λ x. used (r ∙ eqb-true _ _ (isTrue _ (right (ours mine table i) _ x))));
+            on = withLast i (λ j. T (stops mine table j) → ⊥) (noStop s) (λ x. used (r ∙ eqb→eq _ _ (right (ours mine table i) _ x)));
           }
 
   -- the definition's choice, from the best of ours or of theirs
