@@ -6,7 +6,7 @@ use Prim.Native.Nat.{ℕ, _+_, _≤_}
 use native.Mathlib.Omega.{arith}
 use lib.ListN.{length, take, drop, length-append, length-drop}
 use lib.Seq.{sets, sets-eq, take-append-seam, drop-append-add, drop-drop, paste, take-length}
-use Rattle.formats.specs.Octets.{over}
+use Rattle.words.specs.Octets.{over}
 
 -- signals stored behind octets
 pub paste-behind : (xs vs buffer : List ℕ) → paste (over xs buffer) (length xs) vs (length vs) ≡ over (xs ++ vs) buffer

@@ -1,20 +1,10 @@
 -- How numbers and address signals lie in octets (Q.723; document 01, "Messages on the link"). The reader and the writer both go by these.
 -- Assumes nothing.
 use mathlib.Core.Bool.{Bool, false, cond, _||_}
-use mathlib.Core.List.{List, [], _∷_, _++_}
-use Prim.Native.Nat.{ℕ, zero, suc, _+_, _*_, _/_, _%_}
+use mathlib.Core.List.{List, [], _∷_}
+use Prim.Native.Nat.{ℕ, _+_, _*_, _/_, _%_}
 use lib.Dec.{eqb, ltb}
-use lib.ListN.{length, drop}
-
--- a number in so many octets, lowest first
-abbrev pub lowFirst : ℕ → ℕ → List ℕ
-lowFirst zero n = []
-lowFirst (suc k) n = n % 256 ∷ lowFirst k (n / 256)
-
--- the number that octets hold, lowest first
-abbrev pub numberOf : List ℕ → ℕ
-numberOf [] = 0
-numberOf (o ∷ os) = o + 256 * numberOf os
+use lib.ListN.{length}
 
 -- address signals two to an octet, the earlier one low, a zero filler after an odd count
 abbrev pub pairs : List ℕ → List ℕ
@@ -26,10 +16,6 @@ pairs (a ∷ b ∷ rest) = (a + 16 * b) ∷ pairs rest
 abbrev pub halves : List ℕ → List ℕ
 halves [] = []
 halves (o ∷ os) = o % 16 ∷ o / 16 ∷ halves os
-
--- octets at the start of a buffer, whose other octets keep their contents
-abbrev pub over : List ℕ → List ℕ → List ℕ
-over xs buffer = xs ++ drop (length xs) buffer
 
 -- 10, 13 and 14 are spare codes
 abbrev pub spare : ℕ → Bool

@@ -11,7 +11,7 @@ use lib.ListN.{length, drop}
 use lib.Seq.{take-append-seam}
 use Rattle.circuit.specs.Groups.{none}
 use Rattle.reader.specs.declared.Fields.{Fields}
-use Rattle.formats.specs.Refusals.{firstOf}
+use Rattle.circuit.specs.Refusals.{firstOf}
 use Rattle.formats.specs.Octets.{aboveFifteen}
 use Rattle.formats.specs.Messages.{isIam}
 use Rattle.reader.specs.Reading.{noCodes, plainFields, iamFields, fieldsOf}

@@ -8,7 +8,7 @@ use native.Mathlib.Omega.{arith}
 use borrow.Author.Tests.{ltb-false, eqb-false, ne-eqb}
 use lib.Dec.{eqb, ltb}
 use Rattle.circuit.specs.Groups.{badCode, badGroup, none}
-use Rattle.formats.specs.Refusals.{refuse, firstOf}
+use Rattle.circuit.specs.Refusals.{refuse, firstOf}
 
 -- six tests, none of which holds
 pub record Clear (b₀ b₁ b₂ b₃ b₄ b₅ : Bool) : Type 0 where

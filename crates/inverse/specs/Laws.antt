@@ -11,8 +11,8 @@ use lib.ListN.{length, take, drop}
 use lib.Seq.{take-append-seam}
 use Rattle.circuit.specs.Groups.{badGroup}
 use Rattle.reader.specs.declared.Reading.{Reading}
-use Rattle.formats.specs.Refusals.{Rule, refuse, firstOf}
-use Rattle.formats.specs.Octets.{over}
+use Rattle.circuit.specs.Refusals.{refuse, Rule, firstOf}
+use Rattle.words.specs.Octets.{over}
 use Rattle.formats.specs.Messages.{isIam, isAcm, fixedLength, half}
 use Rattle.writer.specs.declared.Written.{Written}
 use Rattle.reader.specs.Reading.{readRules, fieldsOf, reading}

@@ -10,7 +10,8 @@ use lib.Dec.{lit<}
 use lib.ListN.{length, getD, take, drop, length-drop}
 use borrow.Author.Tests.{le-ltb}
 use lib.Seq.{getD-drop}
-use Rattle.formats.specs.Octets.{lowFirst, numberOf, pairs, halves, aboveFifteen}
+use Rattle.formats.specs.Octets.{pairs, halves, aboveFifteen}
+use Rattle.words.specs.Octets.{lowFirst, numberOf}
 
 -- a list of octets
 abbrev pub Octets : List ℕ → Type 0

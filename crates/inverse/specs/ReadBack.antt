@@ -9,8 +9,9 @@ use borrow.Author.Tests.{ltb-false, eqb-true, eqb-false, eq-eqb, not-false}
 use lib.Dec.{T, eqb, ltb, lit<, lit≤}
 use lib.ListN.{length, take}
 use Rattle.circuit.specs.Groups.{badGroup}
-use Rattle.formats.specs.Refusals.{firstOf}
-use Rattle.formats.specs.Octets.{lowFirst, numberOf, pairs, halves, badCodes, aboveFifteen}
+use Rattle.circuit.specs.Refusals.{firstOf}
+use Rattle.formats.specs.Octets.{pairs, halves, badCodes, aboveFifteen}
+use Rattle.words.specs.Octets.{lowFirst, numberOf}
 use Rattle.formats.specs.Messages.{listed, isIam, isAcm, fixedLength, half}
 use Rattle.reader.specs.Places.{labelIn, cicIn, headingIn, sixBitsIn, wordIn, indicatorsIn, countIn, addressIn}
 use Rattle.reader.specs.Reading.{plainFields, iamFields, bodyOf, fieldsOf}

@@ -11,8 +11,9 @@ use lib.ListN.{length, getD, take, drop, length-append, length-drop}
 use lib.Seq.{take-append-seam, length-take-le}
 use Rattle.circuit.specs.Groups.{badGroup}
 use Rattle.reader.specs.declared.Fields.{Fields}
-use Rattle.formats.specs.Refusals.{refuse, firstOf}
-use Rattle.formats.specs.Octets.{lowFirst, numberOf, pairs, halves, over, badCodes, aboveFifteen}
+use Rattle.circuit.specs.Refusals.{refuse, firstOf}
+use Rattle.formats.specs.Octets.{pairs, halves, badCodes, aboveFifteen}
+use Rattle.words.specs.Octets.{lowFirst, numberOf, over}
 use Rattle.formats.specs.Messages.{listed, isIam, isAcm, fixedLength, half}
 use Rattle.reader.specs.Places.{labelIn, dpcIn, opcIn, cicIn, headingIn, sixBitsIn, indicatorsIn, countIn, addressIn}
 use Rattle.reader.specs.Reading.{elsewhere, unfit, bodyRules, readRules, noCodes, plainFields, iamFields, fieldsIn, unless, fieldsOf}

@@ -10,7 +10,7 @@ use borrow.Author.Tests.{lt-ltb, le-ltb}
 use lib.ListN.{length, getD, set}
 use lib.Seq.{paste, paste-suc}
 use Rattle.reader.specs.declared.Fields.{Fields}
-use Rattle.formats.specs.Octets.{over}
+use Rattle.words.specs.Octets.{over}
 use Rattle.reader.specs.Reading.{fieldsOf}
 use Rattle.link.specs.Entries.{fieldsHead, fieldsOctets, Told, telling, readInto}
 use Rattle.formats.proofs.Stores.{paste-behind}

@@ -7,7 +7,7 @@ use lib.Dec.{ltb}
 use lib.ListN.{length}
 use Rattle.reader.specs.declared.Fields.{Fields}
 use Rattle.writer.specs.declared.Written.{Written}
-use Rattle.formats.specs.Octets.{lowFirst, over}
+use Rattle.words.specs.Octets.{lowFirst, over}
 use Rattle.reader.specs.Reading.{fieldsOf}
 use Rattle.writer.specs.Writing.{Said, writing}
 

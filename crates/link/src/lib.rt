@@ -6,7 +6,7 @@ ghost use mathlib.Core.Path.{_≡_};
 ghost use Prim.Native.Nat.{_≤_};
 ghost use lib.ListN.{length};
 ghost use lib.Seq.{paste};
-ghost use Rattle.formats.specs.Octets.{over};
+ghost use Rattle.words.specs.Octets.{over};
 ghost use Rattle.writer.specs.Writing.{said};
 ghost use Rattle.link.specs.Entries.{fieldsOctets, readInto, writeFrom};
 

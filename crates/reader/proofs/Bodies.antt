@@ -12,8 +12,9 @@ use lib.Seq.{length-take-le, take-at}
 use Rattle.circuit.specs.Groups.{badGroup}
 use Rattle.circuit.specs.declared.Cic.{Cic}
 use Rattle.reader.specs.declared.Fields.{Fields}
-use Rattle.formats.specs.Refusals.{refuse, firstOf}
-use Rattle.formats.specs.Octets.{halves, over, badCodes}
+use Rattle.circuit.specs.Refusals.{refuse, firstOf}
+use Rattle.formats.specs.Octets.{halves, badCodes}
+use Rattle.words.specs.Octets.{over}
 use Rattle.formats.specs.Messages.{listed, isIam, isAcm, fixedLength, half}
 use Rattle.reader.specs.Places.{labelIn, cicIn, headingIn, sixBitsIn, wordIn, indicatorsIn, countIn, addressIn}
 use Rattle.reader.specs.Reading.{elsewhere, unfit, bodyRules, noCodes, refused, plainFields, iamFields, fieldsIn, unless, bodyOf, fieldsOf}

@@ -3,7 +3,8 @@
 use mathlib.Core.List.{List, [], _∷_}
 use Prim.Native.Nat.{ℕ, _/_, _%_, _^_}
 use lib.ListN.{getD, take, drop}
-use Rattle.formats.specs.Octets.{numberOf, halves}
+use Rattle.formats.specs.Octets.{halves}
+use Rattle.words.specs.Octets.{numberOf}
 
 -- the label, five octets: DPC + 2^14 · OPC + 2^28 · CIC
 abbrev pub labelIn : List ℕ → ℕ

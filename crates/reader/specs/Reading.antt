@@ -10,8 +10,9 @@ use Rattle.codes.specs.Headings.{signalOf}
 use Rattle.reader.specs.declared.Fields.{Fields}
 use Rattle.reader.specs.declared.Message.{Message}
 use Rattle.reader.specs.declared.Reading.{Reading}
-use Rattle.formats.specs.Refusals.{Rule, refuse, firstOf}
-use Rattle.formats.specs.Octets.{over, badCodes}
+use Rattle.circuit.specs.Refusals.{refuse, Rule, firstOf}
+use Rattle.formats.specs.Octets.{badCodes}
+use Rattle.words.specs.Octets.{over}
 use Rattle.formats.specs.Messages.{listed, isIam, isAcm, fixedLength, half}
 use Rattle.reader.specs.Places.{dpcIn, opcIn, cicIn, headingIn, sixBitsIn, indicatorsIn, countIn, addressIn}
 

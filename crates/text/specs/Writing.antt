@@ -11,6 +11,7 @@ use lib.Dec.{ltb}
 use lib.ListN.{length, getD, set, take, drop, length-append}
 use lib.Seq.{sets, sets-eq, length-take-le, take-suc}
 use borrow.Author.Tests.{lt-ltb, le-ltb}
+use Rattle.words.specs.Octets.{over}
 use Rattle.text.specs.Numbers.{decimal, decimal-small, decimal-large}
 
 -- a text stands at a place of the room, `next` is the place behind it, and every other octet is as before
@@ -28,10 +29,6 @@ then {b} {m} {a} {at} {n} {p} {x} {y} u v = record {
   place = rw (v .place, u .place, length-append) (add-assoc at (length x) (length y));
   room = v .room ∙ ap (λ (k : ℕ). sets m k y) (u .place) ∙ ap (λ (l : List ℕ). sets l (at + length x) y) (u .room) ∙ sets-more x y b at;
 }
-
--- the room with a text at its start; behind the text it keeps its contents
-abbrev pub over : List ℕ → List ℕ → List ℕ
-over text room = text ++ drop (length text) room
 
 -- a text at the room's start, and its length
 pub record Printed (before text : List ℕ) (n : ℕ) (after : List ℕ) : Type 0 where

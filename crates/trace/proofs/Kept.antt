@@ -9,7 +9,8 @@ use native.Mathlib.Omega.{arith}
 use lib.ListN.{length, getD, set, take, drop, length-append, length-drop}
 use lib.Seq.{length-take-le, take-suc, drop-cons, append-snoc, getD-append-add, getD-drop, set-at}
 use borrow.Author.Tests.{lt-ltb, le-ltb}
-use Rattle.text.specs.Writing.{Printed, over}
+use Rattle.text.specs.Writing.{Printed}
+use Rattle.words.specs.Octets.{over}
 use Rattle.trace.specs.Feed.{kept}
 use Rattle.trace.proofs.Runs.{fitsRoom}
 

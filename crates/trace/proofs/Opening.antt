@@ -10,7 +10,8 @@ use lib.ListN.{length}
 use borrow.Author.Tests.{lt-ltb, le-ltb}
 use Rattle.text.specs.Numbers.{byTest}
 use Rattle.text.specs.Lines.{groupLine}
-use Rattle.text.specs.Writing.{Printed, inRoom, over, lineRoom}
+use Rattle.text.specs.Writing.{Printed, inRoom, lineRoom}
+use Rattle.words.specs.Octets.{over}
 use Rattle.trace.specs.declared.Running.{Running}
 use Rattle.trace.specs.declared.Stage.{Stage}
 use Rattle.trace.specs.declared.Stage.the-variants.{Start, Bad, Runs}

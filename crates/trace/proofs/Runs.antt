@@ -8,7 +8,8 @@ use native.Mathlib.Omega.{arith}
 use lib.ListN.{length, take, drop, length-append, length-drop, drop-of-length-le}
 use lib.Seq.{length-take-le, take-all, take-at, drop-at, drop-drop}
 use borrow.Rule.Slice.PartMut.{midOf, putMid, same-len-mid}
-use Rattle.text.specs.Writing.{Printed, over}
+use Rattle.text.specs.Writing.{Printed}
+use Rattle.words.specs.Octets.{over}
 use Rattle.trace.specs.declared.Running.{Running}
 use Rattle.records.specs.Records.{item}
 use Rattle.trace.specs.Replay.{onward}

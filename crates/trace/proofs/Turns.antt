@@ -13,7 +13,8 @@ use Rattle.group.specs.declared.Answer.{Answer}
 use Rattle.group.specs.Table.{stepIn}
 use Rattle.text.specs.declared.Line.{Line}
 use Rattle.text.specs.Lines.{line}
-use Rattle.text.specs.Writing.{Printed, inRoom, over, lineRoom}
+use Rattle.text.specs.Writing.{Printed, inRoom, lineRoom}
+use Rattle.words.specs.Octets.{over}
 use Rattle.records.specs.declared.Recorded.{Recorded}
 use Rattle.records.specs.declared.Item.{Item}
 use Rattle.records.specs.declared.Item.the-variants.{Event}

@@ -11,8 +11,9 @@ use lib.ListN.{length}
 use lib.Seq.{paste}
 use Rattle.circuit.specs.Groups.{badGroup}
 use Rattle.writer.specs.declared.Written.{Written}
-use Rattle.formats.specs.Refusals.{refuse, firstOf}
-use Rattle.formats.specs.Octets.{pairs, over}
+use Rattle.circuit.specs.Refusals.{refuse, firstOf}
+use Rattle.formats.specs.Octets.{pairs}
+use Rattle.words.specs.Octets.{over}
 use Rattle.formats.specs.Messages.{listed, isIam, isAcm, fixedLength, half}
 use Rattle.writer.specs.Writing.{Said, tooLarge, badAddress, labelOf, plainOctets, acmOctets, iamHead, iamOctets, shortOctets, octetsOf, Outcome, unwritten, putting, writing, iamWriting, shortWriting}
 use Rattle.writer.proofs.Pairs.{length-pairs}

@@ -7,8 +7,9 @@ use lib.Dec.{eqb, ltb}
 use lib.ListN.{length}
 use Rattle.circuit.specs.Groups.{badGroup}
 use Rattle.writer.specs.declared.Written.{Written}
-use Rattle.formats.specs.Refusals.{Rule, refuse, firstOf}
-use Rattle.formats.specs.Octets.{lowFirst, pairs, over, badCodes, aboveFifteen}
+use Rattle.circuit.specs.Refusals.{refuse, Rule, firstOf}
+use Rattle.formats.specs.Octets.{pairs, badCodes, aboveFifteen}
+use Rattle.words.specs.Octets.{lowFirst, over}
 use Rattle.formats.specs.Messages.{listed, isIam, isAcm}
 
 -- what the writer is told to say

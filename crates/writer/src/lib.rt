@@ -6,7 +6,8 @@ ghost use mathlib.Core.Bool.{true, false, cond};
 ghost use Prim.Native.Nat.{_+_, _≤_};
 ghost use lib.ListN.{length};
 ghost use lib.Seq.{paste};
-ghost use Rattle.formats.specs.Octets.{pairs, over, aboveFifteen};
+ghost use Rattle.formats.specs.Octets.{pairs, aboveFifteen};
+ghost use Rattle.words.specs.Octets.{over};
 ghost use Rattle.formats.specs.Messages.{fixedLength, half, listed, isIam};
 ghost use Rattle.writer.specs.Writing.{said, tooLarge, badAddress, plainOctets, acmOctets, iamHead, labelOf, acmLimit, unwritten, iamWriting, shortWriting, writing};
 

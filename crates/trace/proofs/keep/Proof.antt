@@ -1,7 +1,7 @@
 -- `trace::keep` meets its contract.
 -- Assumes nothing.
 use Rattle.trace.proofs.Kept.{keepMore, noneKept, crossed, allKept}
-use Rattle.text.specs.Writing.{over}
+use Rattle.words.specs.Octets.{over}
 use borrow.Author.Needs.{needs}
 use lib.Seq.{length-take-le}
 use lib.ListN.{length, take, drop, length-set, length-drop}

@@ -3,7 +3,7 @@
 use native.Mathlib.Omega.{arith}
 use Rattle.formats.proofs.Stores.{store-more}
 use Rattle.writer.specs.Writing.{plainOctets}
-use Rattle.formats.specs.Octets.{lowFirst}
+use Rattle.words.specs.Octets.{lowFirst}
 use lib.Seq.{sets}
 use lib.ListN.{length-set}
 use mathlib.Core.Path.{_∙_, ap}

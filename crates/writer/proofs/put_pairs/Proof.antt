@@ -2,8 +2,7 @@
 -- Assumes nothing.
 use native.Mathlib.Omega.{arith}
 use borrow.Author.Needs.{needs}
-use Rattle.writer.proofs.Pairs.{pairs-more, pairs-odd, pairs-even}
-use Rattle.writer.proofs.Pairs.{at-most}
+use Rattle.writer.proofs.Pairs.{pairs-more, pairs-odd, pairs-even, at-most}
 use Rattle.formats.specs.Octets.{pairs}
 use lib.Seq.{paste, paste-zero}
 use lib.ListN.{length, length-set}
