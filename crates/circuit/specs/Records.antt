@@ -1,9 +1,11 @@
 -- A circuit's record (document 01, "Group, records, numbers"): what is changed in one, and which are allowed.
 -- Assumes nothing.
-use mathlib.Core.Bool.{Bool, true, false, not, _&&_, _||_}
-use Prim.Native.Nat.{ℕ}
+use mathlib.Core.Bool.{Bool, true, false, not, _&&_, _||_, cond}
+use Prim.Native.Nat.{ℕ, _+_}
 use lib.Dec.{leb, ltb}
 use Rattle.circuit.specs.declared.Record.{Record}
+use Rattle.circuit.specs.declared.AddressType.{AddressType}
+use Rattle.circuit.specs.declared.AddressType.the-variants.{Plain, Charge, NoCharge, Payphone}
 
 -- a record by its state and its flags 1, 2, 4, 8
 abbrev pub rec : ℕ → Bool → Bool → Bool → Bool → Record
@@ -50,3 +52,13 @@ onlyFar r = not (r .own) && (not (r .bla) && not (r .uba))
 -- a state up to 12, flags that are allowed, and in state 12 only 2 set
 abbrev pub valid : Record → Bool
 valid r = leb (r .state) 12 && (flagsAllowed r && (ltb (r .state) 12 || onlyFar r))
+
+-- the octet of address complete: the type in the bits worth 1 and 2, subscriber free in the bit worth 4
+abbrev pub typeBits : AddressType → ℕ
+typeBits Plain = 0
+typeBits Charge = 1
+typeBits NoCharge = 2
+typeBits Payphone = 3
+
+abbrev pub completeOctet : AddressType → Bool → ℕ
+completeOctet t free = typeBits t + cond free 4 0

@@ -42,6 +42,23 @@ headingOf Uba = 0x57
 headingOf Rsc = 0x77
 headingOf (Fail f) = failureHeading f
 
+-- ACM's octet; no other signal has one
+abbrev pub octetOf : Signal → ℕ
+octetOf Iam = 0
+octetOf (Acm octet) = octet
+octetOf Anc = 0
+octetOf Ann = 0
+octetOf Cbk = 0
+octetOf Clf = 0
+octetOf Ran = 0
+octetOf Rlg = 0
+octetOf Blo = 0
+octetOf Bla = 0
+octetOf Ubl = 0
+octetOf Uba = 0
+octetOf Rsc = 0
+octetOf (Fail f) = 0
+
 -- the failure among these that has the heading
 abbrev pub amongFailures : ℕ → List Failure → NamedFailure
 amongFailures heading [] = NoFailure
@@ -62,6 +79,15 @@ among heading (s ∷ ss) = cond (eqb heading (headingOf s)) (Known s) (among hea
 -- the signal of a heading, an ACM with the octet given
 abbrev pub signalOf : ℕ → ℕ → Named
 signalOf heading octet = among heading (Iam ∷ Acm octet ∷ Anc ∷ Ann ∷ Cbk ∷ Clf ∷ Ran ∷ Rlg ∷ Blo ∷ Bla ∷ Ubl ∷ Uba ∷ Rsc ∷ [])
+
+-- what a heading was read as, by its number: the heading, 0 where no failure or no signal has it
+abbrev pub namedFailure : NamedFailure → ℕ
+namedFailure (IsFailure f) = failureHeading f
+namedFailure NoFailure = 0
+
+abbrev pub named : Named → ℕ
+named (Known s) = headingOf s
+named Unknown = 0
 
 -- the headings of what is sent, 0 for none
 abbrev pub firstHeading : Sends → ℕ

@@ -2,16 +2,14 @@
 -- Assumes nothing.
 use mathlib.Core.Bool.{Bool, true, false, not, cond, _&&_}
 use mathlib.Core.List.{List, [], _∷_}
-use Prim.Native.Nat.{ℕ, _+_}
+use Prim.Native.Nat.{ℕ}
 use lib.Dec.{eqb}
 use Rattle.circuit.specs.declared.Record.{Record}
 use Rattle.circuit.specs.declared.Failure.{Failure}
 use Rattle.circuit.specs.declared.Failure.the-variants.{Sec, Cgc, Nnc, Adi, Cfl, Ssb, Unn, Los, Sst}
 use Rattle.circuit.specs.declared.Signal.{Signal}
-use Rattle.circuit.specs.declared.Signal.the-variants.{Iam, Acm, Anc, Ann, Cbk, Clf, Ran, Rlg, Blo, Ubl, Rsc, Fail}
-use Rattle.circuit.specs.declared.Sends.the-variants.{Nothing, One}
-use Rattle.circuit.specs.declared.AddressType.{AddressType}
-use Rattle.circuit.specs.declared.AddressType.the-variants.{Plain, Charge, NoCharge, Payphone}
+use Rattle.circuit.specs.declared.Signal.the-variants.{Iam, Acm, Anc, Ann, Cbk, Clf, Ran, Blo, Ubl, Rsc, Fail}
+use Rattle.circuit.specs.declared.Sends.the-variants.{One}
 use Rattle.circuit.specs.declared.Charging.{Charging}
 use Rattle.circuit.specs.declared.Charging.the-variants.{Charged, Free}
 use Rattle.circuit.specs.declared.Command.{Command}
@@ -34,16 +32,6 @@ late Ssb = false
 late Unn = false
 late Los = false
 late Sst = false
-
--- the octet of address complete: the type in the bits worth 1 and 2, subscriber free in the bit worth 4
-abbrev pub typeBits : AddressType → ℕ
-typeBits Plain = 0
-typeBits Charge = 1
-typeBits NoCharge = 2
-typeBits Payphone = 3
-
-abbrev pub completeOctet : AddressType → Bool → ℕ
-completeOctet t free = typeBits t + cond free 4 0
 
 -- ANC, ANN for an answer with and without charge
 abbrev pub answerSignal : Charging → Signal

@@ -22,7 +22,8 @@ use circuit::Timer;
 ghost use mathlib.Core.Path.{_≡_};
 ghost use mathlib.Core.Bool.{cond};
 ghost use Prim.Native.Nat.{_<_};
-ghost use Rattle.commands.specs.Tables.{late, typeBits, completeOctet, answerSignal, seizeRefusal, onCommand, onTimer};
+ghost use Rattle.commands.specs.Tables.{late, answerSignal, seizeRefusal, onCommand, onTimer};
+ghost use Rattle.circuit.specs.Records.{typeBits, completeOctet};
 
 // The record after a restart: awaiting reset, no flag.
 const RESTARTED: Record = Record {

@@ -6,7 +6,7 @@ use mathlib.Core.Path.{_≡_, subst₂}
 use Prim.Native.Nat.{ℕ}
 use lib.Dec.{T, eqb, eqb-refl}
 use Rattle.circuit.specs.declared.Signal.{Signal}
-use Rattle.circuit.specs.Every.{left, isTrue}
+use Rattle.circuit.proofs.Every.{left, isTrue}
 use Rattle.ends.specs.Ends.{End, Reached, sameStage, awaits, awaiting, marks, Agree, Claim}
 use Rattle.ends.proofs.Words.{heard, Half, view}
 use Rattle.ends.proofs.Rooms.{agrees}

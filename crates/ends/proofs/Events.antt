@@ -21,7 +21,8 @@ use Rattle.circuit.specs.declared.Timer.the-variants.{AddressWait, AnswerWait, 
 use Rattle.circuit.specs.declared.Event.the-variants.{Arrives, Ordered, RunsOut}
 use Rattle.circuit.specs.Records.{rec, valid}
 use Rattle.circuit.specs.Rows.{first}
-use Rattle.circuit.specs.Every.{left, right, implies, then, eachBool, atBool, eachBelow, atBelow}
+use Rattle.circuit.specs.Every.{implies, eachBelow}
+use Rattle.circuit.proofs.Every.{left, right, then, eachBool, atBool, atBelow}
 use Rattle.codes.specs.declared.Found.{Found}
 use Rattle.codes.specs.declared.Found.the-variants.{Is, Missing}
 use Rattle.step.specs.Step.{step, stepFound}

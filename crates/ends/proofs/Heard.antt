@@ -8,7 +8,8 @@ use lib.Dec.{T, eqb, leb, leb→le, eqb-refl}
 use Rattle.circuit.specs.declared.Signal.{Signal}
 use Rattle.circuit.specs.declared.Signal.the-variants.{Iam, Acm, Anc, Ann, Cbk, Clf, Ran, Rlg, Blo, Bla, Ubl, Uba, Rsc, Fail}
 use Rattle.circuit.specs.Records.{valid}
-use Rattle.circuit.specs.Every.{left, right, isTrue, eachBool, atBool, eachBelow, atBelow}
+use Rattle.circuit.specs.Every.{eachBelow}
+use Rattle.circuit.proofs.Every.{left, right, isTrue, eachBool, atBool, atBelow}
 use Rattle.ends.specs.Ends.{End, Reached, unheard, NextIsHeard, ClaimUnheard}
 use Rattle.ends.proofs.Words.{word, words, heard, mute, quiet, kept, run, runOf, next, Run, Run.ran, Half, Half.half, view, bloFor, allIn, at-has}
 use Rattle.ends.proofs.Events.{isWord, said}

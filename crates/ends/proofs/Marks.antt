@@ -13,7 +13,8 @@ use Rattle.circuit.specs.declared.Event.the-variants.{Arrives}
 use Rattle.circuit.specs.declared.Outcome.{Outcome}
 use Rattle.circuit.specs.Records.{valid}
 use Rattle.circuit.specs.Rows.{first}
-use Rattle.circuit.specs.Every.{left, right, implies, then, eachBool, atBool}
+use Rattle.circuit.specs.Every.{implies}
+use Rattle.circuit.proofs.Every.{left, right, then, eachBool, atBool}
 use Rattle.codes.specs.declared.Found.{Found}
 use Rattle.codes.specs.declared.Found.the-variants.{Is}
 use Rattle.step.specs.Step.{step, stepFound}

@@ -10,8 +10,9 @@ use Rattle.circuit.specs.declared.Signal.{Signal}
 use Rattle.circuit.specs.declared.Event.the-variants.{Arrives}
 use Rattle.circuit.specs.declared.Outcome.{Outcome}
 use Rattle.circuit.specs.Records.{valid}
-use Rattle.circuit.specs.Groups.{controls, oneControls}
-use Rattle.circuit.specs.Every.{left, right}
+use Rattle.circuit.specs.Groups.{controls}
+use Rattle.circuit.proofs.Groups.{oneControls}
+use Rattle.circuit.proofs.Every.{left, right}
 use Rattle.codes.specs.declared.Found.{Found}
 use Rattle.codes.specs.declared.Found.the-variants.{Is}
 use Rattle.ends.specs.Ends.{End, does, inOrder, Pair, acted, arrival, When, When.anyTime, When.inSilence, When.losingAll, When.never, whenGiven, empty, silence, given, Happening, Happening.arrives, Happening.host, turn, Reached, Reached.start, Reached.atFirst, Reached.atSecond}

@@ -9,7 +9,7 @@ use borrow.Author.Tests.{ltb-false, eqb-true}
 use lib.Dec.{ltb}
 use lib.ListN.{length, drop}
 use lib.Seq.{take-append-seam}
-use Rattle.circuit.specs.Groups.{none}
+use Rattle.circuit.proofs.Groups.{none}
 use Rattle.reader.specs.declared.Fields.{Fields}
 use Rattle.circuit.specs.Refusals.{firstOf}
 use Rattle.formats.specs.Octets.{aboveFifteen}

@@ -7,7 +7,8 @@ use Prim.Native.Nat.{ℕ, _<_, _≤_}
 use native.Mathlib.Omega.{arith}
 use borrow.Author.Tests.{ltb-false, eqb-false, ne-eqb}
 use lib.Dec.{eqb, ltb}
-use Rattle.circuit.specs.Groups.{badCode, badGroup, none}
+use Rattle.circuit.specs.Groups.{badCode, badGroup}
+use Rattle.circuit.proofs.Groups.{none}
 use Rattle.circuit.specs.Refusals.{refuse, firstOf}
 
 -- six tests, none of which holds

@@ -14,7 +14,7 @@ use lib.ListN.{length, getD, set, length-set, replicate}
 use lib.Seq.{getD-set-same, getD-set-other, lt-length-set}
 use Rattle.circuit.specs.declared.Record.{Record}
 use Rattle.circuit.specs.Records.{rec, flagsAllowed, onlyFar, valid}
-use Rattle.circuit.specs.Every.{atBelow, alike, alikeSame}
+use Rattle.circuit.proofs.Every.{atBelow, alike, alikeSame}
 use Rattle.layout.specs.declared.Stored.{Stored}
 use Rattle.words.specs.Words as words
 use Rattle.words.specs.Words.{word, putWord, largest}

@@ -6,7 +6,8 @@ use Prim.Native.Nat.{ℕ, zero, suc, _<_, _≤_}
 use native.Mathlib.Omega.{arith}
 use lib.Dec.{T, ltb}
 use borrow.Author.Tests.{ltb-true, ltb-false}
-use Rattle.circuit.specs.Every.{left, right, both, implies, then, given, eachBelow, atBelow, eachOf}
+use Rattle.circuit.specs.Every.{implies, eachBelow}
+use Rattle.circuit.proofs.Every.{left, right, both, then, given, atBelow, eachOf}
 
 -- n where there is none
 unfoldable pub first : (n : ℕ) → (ℕ → Bool) → ℕ

@@ -11,8 +11,9 @@ use borrow.Author.Tests.{ltb-true, lt-leb, le-ltb}
 use Rattle.circuit.specs.declared.Command.the-variants.{Seize}
 use Rattle.circuit.specs.declared.Event.the-variants.{Ordered}
 use Rattle.circuit.specs.Records.{valid}
-use Rattle.circuit.specs.Groups.{badGroup, controls, oneControls, atMost4096}
-use Rattle.circuit.specs.Every.{left, right, both, isTrue}
+use Rattle.circuit.specs.Groups.{badGroup, controls}
+use Rattle.circuit.proofs.Groups.{oneControls, atMost4096}
+use Rattle.circuit.proofs.Every.{left, right, both, isTrue}
 use Rattle.codes.specs.declared.Found.the-variants.{Is}
 use Rattle.layout.specs.Layout.{recordsIn, flagsAt, rankAt, recordOf, recordAt, allowedAt}
 use Rattle.group.specs.Table.{stepIn}

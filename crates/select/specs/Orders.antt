@@ -7,7 +7,7 @@ use Prim.Native.Nat.{ℕ, _<_, _≤_}
 use native.Mathlib.Omega.{arith}
 use lib.Dec.{T, eqb, leb, ltb, eqb→eq, leb→le, ltb→lt, lt→ltb, nltb→le, not-T}
 use borrow.Author.Tests.{eqb-true, eqb-false, eq-eqb, leb-true, leb-false, le-leb}
-use Rattle.circuit.specs.Every.{left, right, both}
+use Rattle.circuit.proofs.Every.{left, right, both}
 use Rattle.layout.specs.Layout.{rankAt}
 use Rattle.select.specs.First.{Best, Order}
 use Rattle.select.specs.Selection.{ours, earlier, stops}

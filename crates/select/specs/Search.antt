@@ -9,7 +9,7 @@ use lib.Dec.{T, eqb, leb, ltb, eqb→eq, leb→le, ltb→lt, lt→ltb}
 use borrow.Author.Tests.{not-true, not-false, eqb-true, eqb-false, ne-eqb, leb-false, le-leb}
 use lib.ListN.{length}
 use Rattle.circuit.specs.Groups.{badGroup, byParity, controls}
-use Rattle.circuit.specs.Every.{left, right, both}
+use Rattle.circuit.proofs.Every.{left, right, both}
 use Rattle.layout.specs.declared.Stored.{Stored}
 use Rattle.layout.specs.Layout.{recordsIn, stateAt, flagsAt, rankAt, allowed, allowedAt, stored, storedAt, storedIn}
 use Rattle.select.specs.declared.Selected.{Selected}

@@ -17,7 +17,8 @@ use Rattle.circuit.specs.declared.Event.the-variants.{Arrives, Ordered, RunsOut
 use Rattle.circuit.specs.declared.Outcome.{Outcome}
 use Rattle.circuit.specs.Records.{valid}
 use Rattle.circuit.specs.Rows.{first, refused}
-use Rattle.circuit.specs.Every.{implies, then, left, right, both, alike, alikeSame, everywhere, atValid}
+use Rattle.circuit.specs.Every.{implies}
+use Rattle.circuit.proofs.Every.{then, left, right, both, alike, alikeSame, everywhere, atValid}
 use Rattle.codes.specs.declared.Found.{Found}
 use Rattle.codes.specs.declared.Found.the-variants.{Is, Missing}
 use Rattle.step.specs.Step.{step, stepFound}

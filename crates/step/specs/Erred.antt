@@ -15,7 +15,8 @@ use Rattle.circuit.specs.declared.Event.{Event}
 use Rattle.circuit.specs.declared.Event.the-variants.{Arrives, Ordered}
 use Rattle.circuit.specs.Records.{to, valid, restarted, flagsAllowed, onlyFar}
 use Rattle.circuit.specs.Rows.{first, answered}
-use Rattle.circuit.specs.Every.{implies, then, left, right, both, isTrue, everywhere, atValid}
+use Rattle.circuit.specs.Every.{implies}
+use Rattle.circuit.proofs.Every.{then, left, right, both, isTrue, everywhere, atValid}
 use Rattle.step.specs.Step.{step}
 use Rattle.step.specs.Refusals.{within}
 use Rattle.step.specs.Frees.{frees}

@@ -8,7 +8,7 @@ use native.Mathlib.Omega.{arith}
 use borrow.Author.Tests.{lt-ltb, le-ltb, ltb-false, eq-eqb, ne-eqb}
 use lib.Dec.{T, eqb, ltb}
 use lib.ListN.{length}
-use Rattle.circuit.specs.Groups.{none}
+use Rattle.circuit.proofs.Groups.{none}
 use Rattle.formats.specs.Octets.{badCodes, aboveFifteen}
 use Rattle.formats.specs.Messages.{isIam}
 use Rattle.writer.specs.Writing.{Said, acmLimit, categoryLimit, indicatorsLimit, tooLarge, badAddress}

@@ -2,7 +2,7 @@
 -- Assumes nothing.
 use native.Mathlib.Omega.{arith}
 use mathlib.Core.Path.{sym, _∙_}
-use Rattle.circuit.specs.Groups.{atMost4096}
+use Rattle.circuit.proofs.Groups.{atMost4096}
 use Rattle.select.specs.Search.{noGroup, inGroup}
 use borrow.Author.Needs.{needs}
 use Rattle.select.proofs.select.Statement.{statement}
