@@ -18,7 +18,7 @@ use Rattle.circuit.specs.declared.Timer.{Timer}
 use Rattle.circuit.specs.declared.Timer.the-variants.{AddressWait, AnswerWait, IncomingHangUp, Repeat, OneMinute, BlockRepeat}
 use Rattle.circuit.specs.declared.Row.{Row}
 use Rattle.circuit.specs.declared.Outcome.{Outcome}
-use Rattle.circuit.specs.Records.{to, block, unblock, restarted}
+use Rattle.circuit.specs.Records.{to, block, unblock, restarted, completeOctet}
 use Rattle.circuit.specs.Rows.{row, first, refused}
 
 -- the failures that may be sent in state 7: CFL, NNC, CGC (Q.724, 1.6)

@@ -17,10 +17,11 @@ use Rattle.circuit.specs.Groups.{badCode, badGroup, controls}
 use Rattle.codes.specs.declared.Found.{Found}
 use Rattle.codes.specs.declared.Found.the-variants.{Is}
 use Rattle.step.specs.Step.{stepFound}
-use Rattle.layout.specs.Layout.{recordsIn, stateAt, flagsAt, recordOf, recordAt, idle, idleState, idleFlags}
+use Rattle.layout.specs.Layout.{recordsIn, stateAt, flagsAt, recordOf, recordAt, idle}
+use Rattle.layout.proofs.Laws.{idleState, idleFlags}
 use Rattle.group.specs.Table.{Step, stepIn}
-use Rattle.group.specs.Laws.{Carries, Same, isStep, others, keepsLength}
-use Rattle.group.specs.Valid.{ValidAt, ValidTable, staysValid, idleValid}
+use Rattle.group.proofs.Laws.{Carries, Same, isStep, others, keepsLength}
+use Rattle.group.proofs.Valid.{ValidAt, ValidTable, staysValid, idleValid}
 use Rattle.ends.specs.Ends as ends
 use Rattle.ends.proofs.Claim.{twoEndsAgree}
 use Rattle.exchanges.specs.Tables.{Exchange, endAt, Both, acted, arrival, given, elsewhere, Happening, Happening.arrives, Happening.host, Happening.beside, turn, arrivalRefusal, refusal, Reached, Reached.start, Reached.atFirst, Reached.atSecond, Claim}

@@ -3,18 +3,17 @@
 -- Assumes nothing.
 use mathlib.Core.Bool.{Bool, cond}
 use mathlib.Core.List.{List}
-use Prim.Native.Nat.{ℕ, _+_}
-use lib.Dec.{eqb, leb, ltb}
-use lib.ListN.{length}
+use Prim.Native.Nat.{ℕ, zero, suc, _+_}
+use lib.Dec.{leb}
 use Rattle.circuit.specs.declared.Sends.the-variants.{Nothing}
 use Rattle.circuit.specs.declared.Outcome.{Outcome}
-use Rattle.circuit.specs.Groups.{badGroup, controls}
+use Rattle.circuit.specs.Groups.{controls}
 use Rattle.codes.specs.declared.Found.{Found}
-use Rattle.words.specs.Words.{largest}
 use Rattle.step.specs.Step.{stepFound}
 use Rattle.step.specs.Frees.{freed}
 use Rattle.group.specs.declared.Answer.{Answer}
-use Rattle.layout.specs.Layout.{recordsIn, counterIn, stateAt, flagsAt, flagsOf, recordAt, put, ranked}
+use Rattle.layout.specs.Layout.{counterIn, stateAt, flagsAt, flagsOf, recordAt, put, ranked}
+use Rattle.group.specs.Refusals.{refusalIn}
 
 -- the answer, and the table after it
 pub record Step : Type 0 where
@@ -33,6 +32,10 @@ nowhere n table = record { answer = refusal n 0 0; table = table }
 abbrev pub refusedAt : ℕ → List ℕ → ℕ → Step
 refusedAt n table cic = record { answer = refusal n (stateAt table cic) (flagsAt table cic); table = table }
 
+-- 1 and 2 are of no such group or circuit
+abbrev pub refusedIn : ℕ → List ℕ → (cic : ℕ) → Step
+refusedIn n table cic = cond (leb n 2) (nowhere n table) (refusedAt n table cic)
+
 -- an event that is not refused: the record after it is shown, and put into the table
 abbrev pub taken : Outcome → Answer
 taken o = record { refusal = 0; state = o .after .state; flags = flagsOf (o .after); sends = o .sends; ind = o .ind }
@@ -44,33 +47,17 @@ stored table cic o = record { answer = taken o; table = put table cic (o .after)
 abbrev pub released : List ℕ → ℕ → Outcome → Step
 released table cic o = record { answer = taken o; table = ranked (put table cic (o .after)) cic (counterIn table + 1) }
 
--- 13: the counter is at its largest value and the event would raise it
-abbrev pub freeing : List ℕ → ℕ → Outcome → Step
-freeing table cic o =
-    cond (leb largest (counterIn table)) (refusedAt 13 table cic)
-    (released table cic o)
+abbrev pub taking : List ℕ → (cic : ℕ) → Outcome → Step
+taking table cic o = cond (freed (stateAt table cic) o) (released table cic o) (stored table cic o)
 
-abbrev pub accepted : List ℕ → ℕ → Outcome → Step
-accepted table cic o =
-    cond (freed (stateAt table cic) o) (freeing table cic o)
-    (stored table cic o)
+-- by the refusal, 0 for none
+abbrev pub answering : (refusal : ℕ) → List ℕ → (cic : ℕ) → Outcome → Step
+answering zero table cic o = taking table cic o
+answering (suc n) table cic o = refusedIn (suc n) table cic
 
--- what one circuit's step says, on the circuit's record in the table
-abbrev pub landed : List ℕ → ℕ → Outcome → Step
-landed table cic o =
-    cond (eqb (o .refusal) 0) (accepted table cic o)
-    (refusedAt (o .refusal) table cic)
+-- what one circuit's step says: on this circuit's record, in our role there
+abbrev pub outcomeAt : (own far : ℕ) → List ℕ → (cic : ℕ) → Found → Outcome
+outcomeAt own far table cic event = stepFound (controls own far cic) (recordAt table cic) event
 
--- a circuit of the group, c: our end controls it. 12: flags that are none; then what the step of one circuit says: 12, 3, and 5, 4 or 6;
--- last 13
-unfoldable pub onCircuit : (c : Bool) → List ℕ → (cic : ℕ) → Found → Step
-onCircuit c table cic event =
-    cond (ltb 15 (flagsAt table cic)) (refusedAt 12 table cic)
-    (landed table cic (stepFound c (recordAt table cic) event))
-
--- 1: no such group; 2: no such circuit
 unfoldable pub stepIn : (own far : ℕ) → List ℕ → (cic : ℕ) → Found → Step
-stepIn own far table cic event =
-    cond (badGroup own far (recordsIn (length table))) (nowhere 1 table)
-    (cond (leb (recordsIn (length table)) cic) (nowhere 2 table)
-    (onCircuit (controls own far cic) table cic event))
+stepIn own far table cic event = answering (refusalIn own far table cic event) table cic (outcomeAt own far table cic event)

@@ -6,7 +6,8 @@ use circuit::Sends;
 use codes::Found;
 ghost use mathlib.Core.Path.{_≡_};
 ghost use Rattle.step.specs.Frees.{freed};
-ghost use Rattle.group.specs.Table.{refusal, refusedAt, taken, freeing, accepted, landed, onCircuit, stepIn};
+ghost use Rattle.group.specs.Table.{refusal, refusedAt, taken, stepIn};
+ghost use Rattle.group.specs.Way.{freeing, accepted, landed, onCircuit};
 
 // What an event on a circuit answers: the refusal's number, 0 where there is none; the record's state and flags after it; the signals; the
 // indication.

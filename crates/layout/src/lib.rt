@@ -4,7 +4,8 @@ use circuit::Cic;
 use circuit::Record;
 ghost use mathlib.Core.Path.{_≡_};
 ghost use Prim.Native.Nat.{_≤_};
-ghost use Rattle.layout.specs.Layout.{tableOctets, recordsIn, counterIn, stateAt, flagsAt, bit, flagsOf, recordOf, allowed, allowedIn, storedAt, put, putCounter, putRank};
+ghost use Rattle.layout.specs.Layout.{tableOctets, recordsIn, counterIn, stateAt, flagsAt, bit, flagsOf, recordOf, allowed, storedAt, put, putCounter, putRank};
+ghost use Rattle.layout.specs.Way.{allowedIn};
 
 const COUNTER_OCTETS: usize = 8;
 

@@ -11,7 +11,8 @@ use lib.ListN.{length}
 use Rattle.circuit.specs.Groups.{badGroup, byParity, controls}
 use Rattle.circuit.proofs.Every.{left, right, both}
 use Rattle.layout.specs.declared.Stored.{Stored}
-use Rattle.layout.specs.Layout.{recordsIn, stateAt, flagsAt, rankAt, allowed, allowedAt, stored, storedAt, storedIn}
+use Rattle.layout.specs.Layout.{recordsIn, stateAt, flagsAt, rankAt, allowed, allowedAt, stored, storedAt}
+use Rattle.layout.proofs.Laws.{storedIn}
 use Rattle.select.specs.declared.Selected.{Selected}
 use Rattle.select.specs.First.{some, firstAt, firstSame, someAt, noneOf, Best, theBest, starts, takes, stays, withLast}
 use Rattle.select.specs.Orders.{before, Ahead.byRank, aheadIs, order, lowerFirst, firstUnused}

@@ -1,7 +1,7 @@
 -- When each refusal is given (document 01, "Refusal numbers"), apart from the tables: 12 first, 3 for an event that is none, then 5, 4 or 6.
--- `Always` shows that the step gives exactly these.
 -- Assumes nothing.
-use mathlib.Core.Bool.{Bool, true, false, not, cond, _&&_, _||_}
+use mathlib.Core.Bool.{Bool, true, false, not, _&&_, _||_}
+use mathlib.Core.List.{List, [], _∷_}
 use Prim.Native.Nat.{ℕ}
 use lib.Dec.{eqb, leb}
 use Rattle.circuit.specs.declared.Record.{Record}
@@ -12,6 +12,7 @@ use Rattle.circuit.specs.declared.Timer.the-variants.{AddressWait, AnswerWait, 
 use Rattle.circuit.specs.declared.Event.{Event}
 use Rattle.circuit.specs.declared.Event.the-variants.{Arrives, Ordered, RunsOut}
 use Rattle.circuit.specs.Records.{valid}
+use Rattle.circuit.specs.Refusals.{Rule, refuse, firstOf}
 use Rattle.codes.specs.declared.Found.{Found}
 use Rattle.codes.specs.declared.Found.the-variants.{Is, Missing}
 use Rattle.codes.specs.Numbers.{refusalOf}
@@ -55,13 +56,24 @@ seizesBlocked r Block = false
 seizesBlocked r Unblock = false
 seizesBlocked r Restart = false
 
--- which refusal is given: no signal is refused, a command 4 or 5, a timer 6
-abbrev pub refusal : Record → Event → ℕ
-refusal r (Arrives s) = 0
-refusal r (Ordered k) = cond (allowed r k) 0 (cond (seizesBlocked r k) 4 5)
-refusal r (RunsOut t) = cond (runs r t) 0 6
+-- the refusals of an event: no signal is refused; of a command 4, and 5 for any other case that is not allowed; of a timer 6
+abbrev pub eventRules : Record → Event → List Rule
+eventRules r (Arrives s) = []
+eventRules r (Ordered k) = refuse 4 (seizesBlocked r k) ∷ refuse 5 (not (allowed r k)) ∷ []
+eventRules r (RunsOut t) = refuse 6 (not (runs r t)) ∷ []
 
--- the refusal of an event that may be none, on any record; 0: it is accepted
+-- of an event that may be none: 3 for that
+abbrev pub foundRules : Record → Found → List Rule
+foundRules r (Is e) = eventRules r e
+foundRules r Missing = refuse (refusalOf Missing) true ∷ []
+
+-- on any record: 12 first
+abbrev pub stepRules : Record → Found → List Rule
+stepRules r f = refuse 12 (not (valid r)) ∷ foundRules r f
+
+-- the refusal that is given, 0: it is accepted
+abbrev pub refusal : Record → Event → ℕ
+refusal r e = firstOf (eventRules r e)
+
 abbrev pub refusalFound : Record → Found → ℕ
-refusalFound r (Is e) = cond (valid r) (refusal r e) 12
-refusalFound r Missing = cond (valid r) (refusalOf Missing) 12
+refusalFound r f = firstOf (stepRules r f)

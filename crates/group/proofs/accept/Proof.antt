@@ -1,7 +1,7 @@
 -- `group::accept` meets its contract.
 -- Assumes nothing.
 use denote.Ref.{now}
-use Rattle.group.specs.Cases.{met, frees, stores}
+use Rattle.group.proofs.Cases.{met, frees, stores}
 use borrow.Author.Needs.{needs}
 use Rattle.group.proofs.accept.Statement.{statement}
 use Rattle.group.proofs.accept.Tie as tie

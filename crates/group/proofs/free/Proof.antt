@@ -2,7 +2,7 @@
 -- Assumes nothing.
 use denote.Ref.{now}
 use mathlib.Core.Path.{refl}
-use Rattle.group.specs.Cases.{met, spends, releases}
+use Rattle.group.proofs.Cases.{met, spends, releases}
 use borrow.Author.Needs.{needs}
 use Rattle.group.proofs.free.Statement.{statement}
 use Rattle.group.proofs.free.Tie as tie

@@ -1,7 +1,7 @@
 -- `group::on_circuit` meets its contract.
 -- Assumes nothing.
 use mathlib.Core.Path.{refl}
-use Rattle.group.specs.Cases.{met, noFlags, stepped}
+use Rattle.group.proofs.Cases.{met, noFlags, stepped}
 use native.Mathlib.Omega.{arith}
 use denote.Ref.{now}
 use borrow.Author.Needs.{needs}

@@ -1,7 +1,7 @@
 -- `group::step` meets its contract.
 -- Assumes nothing.
 use mathlib.Core.Path.{refl}
-use Rattle.group.specs.Cases.{met, noGroup, noCircuit, inGroup}
+use Rattle.group.proofs.Cases.{met, noGroup, noCircuit, inGroup}
 use native.Mathlib.Omega.{arith}
 use denote.Ref.{now}
 use borrow.Author.Needs.{needs}

@@ -1,6 +1,7 @@
 use borrow.Author.Tests.{le-leb, lt-leb}
 use borrow.Author.Needs.{needs}
-use Rattle.layout.specs.Layout.{recordOf, allowedListed}
+use Rattle.layout.specs.Layout.{recordOf}
+use Rattle.layout.proofs.Laws.{allowedListed}
 use Rattle.layout.proofs.allowed.Statement.{statement}
 use Rattle.layout.proofs.allowed.Tie as tie
 use Rattle.layout.proofs.allowed.Reads as reads

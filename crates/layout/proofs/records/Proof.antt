@@ -2,7 +2,8 @@
 -- Assumes nothing.
 use mathlib.Core.Path.{sym}
 use borrow.Author.Tests.{eq-eqb, ne-eqb}
-use Rattle.layout.specs.Layout.{recordsIn, shortRecords}
+use Rattle.layout.specs.Layout.{recordsIn}
+use Rattle.layout.proofs.Laws.{shortRecords}
 use Rattle.layout.proofs.records.Statement.{statement}
 use Rattle.layout.proofs.records.Tie as tie
 

@@ -1,6 +1,6 @@
 use denote.Ref.{now}
 use borrow.Author.Needs.{needs}
-use Rattle.layout.specs.Layout.{octetsAt, noOctets}
+use Rattle.layout.proofs.Laws.{octetsAt, noOctets}
 use Rattle.layout.proofs.stored_at.Statement.{statement}
 use Rattle.layout.proofs.stored_at.Tie as tie
 use Rattle.layout.proofs.stored_at.Reads as reads

@@ -2,7 +2,7 @@
 -- Assumes nothing.
 use native.Mathlib.Omega.{arith}
 use lib.ListN.{length-set}
-use Rattle.words.specs.Words.{octetsPut}
+use Rattle.words.proofs.Words.{octetsPut}
 use borrow.Author.Needs.{needs}
 use Rattle.words.proofs.put_eight.Statement.{statement}
 use Rattle.words.proofs.put_eight.Tie as tie

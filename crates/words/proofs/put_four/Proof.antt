@@ -1,7 +1,7 @@
 -- `words::put_four` meets its contract.
 -- Assumes nothing.
 use native.Mathlib.Numerals.{unary-clauses}
-use Rattle.words.specs.Words.{fourPut}
+use Rattle.words.proofs.Words.{fourPut}
 use borrow.Author.Needs.{needs}
 use Rattle.words.proofs.put_four.Statement.{statement}
 use Rattle.words.proofs.put_four.Tie as tie

@@ -1,7 +1,7 @@
 -- `words::put_short_word` meets its contract.
 -- Assumes nothing.
 use native.Mathlib.Numerals.{unary-clauses}
-use Rattle.words.specs.Words.{eightPut}
+use Rattle.words.proofs.Words.{eightPut}
 use borrow.Author.Needs.{needs}
 use Rattle.words.proofs.put_short_word.Statement.{statement}
 use Rattle.words.proofs.put_short_word.Tie as tie

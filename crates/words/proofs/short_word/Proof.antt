@@ -1,7 +1,7 @@
 -- `words::short_word` meets its contract.
 -- Assumes nothing.
 use native.Mathlib.Numerals.{unary-clauses}
-use Rattle.words.specs.Words.{octets}
+use Rattle.words.proofs.Words.{octets}
 use borrow.Author.Needs.{needs}
 use Rattle.words.proofs.short_word.Statement.{statement}
 use Rattle.words.proofs.short_word.Tie as tie

@@ -1,6 +1,6 @@
 -- `words::word` meets its contract.
 -- Assumes nothing.
-use Rattle.words.specs.Words.{octets}
+use Rattle.words.proofs.Words.{octets}
 use borrow.Author.Needs.{needs}
 use Rattle.words.proofs.word.Statement.{statement}
 use Rattle.words.proofs.word.Tie as tie

@@ -1,38 +1,28 @@
 -- What holds of every event on every circuit of every table, for any circuit number.
 -- Assumes nothing.
 use mathlib.Core.Path.{_≡_, refl, sym, ap, _∙_, subst}
-use mathlib.Core.Bool.{Bool, true, false, cond, _&&_}
+use mathlib.Core.Bool.{Bool, true, false, cond}
 use mathlib.Core.List.{List}
-use Prim.Native.Nat.{ℕ, _<_, _≤_}
+use Prim.Native.Nat.{ℕ, zero, suc, _<_, _≤_}
 use native.Mathlib.Omega.{arith}
 use lib.Dec.{eqb, leb, ltb}
 use lib.ListN.{length}
-use borrow.Author.Tests.{eqb-true, eqb-false, leb-false, ltb-false}
+use borrow.Author.Tests.{eqb-true, eqb-false, leb-true, leb-false, ltb-false}
 use Rattle.circuit.specs.declared.Record.{Record}
 use Rattle.circuit.specs.declared.Outcome.{Outcome}
 use Rattle.circuit.specs.declared.Sends.the-variants.{Nothing}
 use Rattle.circuit.specs.Groups.{badGroup, controls}
 use Rattle.circuit.specs.Rows as Rows
 use Rattle.codes.specs.declared.Found.{Found}
-use Rattle.step.specs.Step.{stepFound}
-use Rattle.step.specs.Refusals.{refusalFound}
-use Rattle.step.specs.Refused.{keepsFound, refusesFound, acceptedValid}
-use Rattle.step.specs.Frees.{freed, freesFound}
-use Rattle.step.specs.Always.{freesListedFound}
+use Rattle.step.proofs.Refused.{keepsFound}
+use Rattle.step.specs.Frees.{freed}
 use Rattle.words.specs.Words.{largest}
-use Rattle.group.specs.declared.Answer.{Answer}
-use Rattle.layout.specs.Layout.{recordsIn, counterIn, stateAt, flagsAt, rankAt, recordOf, recordAt, put, recordBack, putLength, putRecord, putKeepsRank, otherState, otherFlags, otherRank, rankedLength, rankedState, rankedFlags, rankedRecord}
-use Rattle.group.specs.Table.{Step, refusal, nowhere, refusedAt, stored, released, freeing, accepted, landed, onCircuit, stepIn}
-use Rattle.group.specs.Cases.{stepped, inGroup}
+use Rattle.layout.specs.Layout.{recordsIn, counterIn, stateAt, flagsAt, rankAt, recordOf, recordAt, put}
+use Rattle.layout.proofs.Laws.{recordBack, putLength, putRecord, putKeepsRank, otherState, otherFlags, otherRank, rankedLength, rankedState, rankedFlags, rankedRecord}
+use Rattle.group.specs.Table.{Step, refusal, nowhere, refusedAt, stored, released, taking, answering, outcomeAt, stepIn}
+use Rattle.group.specs.Way.{freeing, accepted, landed, onCircuit}
+use Rattle.group.proofs.Cases.{stepped, noGroup, noCircuit, inGroup}
 use Rattle.group.specs.Refusals.{refusalIn}
-
--- one circuit's step, on this circuit's record and in our role there
-abbrev pub outcomeAt : (own far : ℕ) → List ℕ → (cic : ℕ) → Found → Outcome
-outcomeAt own far table cic event = stepFound (controls own far cic) (recordAt table cic) event
-
--- the step of an accepted event
-abbrev pub taking : List ℕ → (cic : ℕ) → Outcome → Step
-taking table cic o = cond (freed (stateAt table cic) o) (released table cic o) (stored table cic o)
 
 -- a refusal leaves the whole table, sends nothing and indicates 0
 pub record Untouched (before : List ℕ) (s : Step) : Type 0 where
@@ -65,8 +55,8 @@ module _ (own far : ℕ) (table : List ℕ) (cic : ℕ) (event : Found) where
       → (cic < recordsIn (length table) → flagsAt table cic ≤ 15 → outcomeAt own far table cic event .refusal ≡ 0
       → freed (stateAt table cic) (outcomeAt own far table cic event) ≡ true → counterIn table < largest → P (released table cic (outcomeAt own far table cic event)))
       → P (stepIn own far table cic event)
-  unfolding stepIn onCircuit
-  byCases P p₁ p₂ refused stores releases = go₁ (badGroup own far (recordsIn (length table)))
+  unfolding onCircuit
+  byCases P p₁ p₂ refused stores releases = go₁ (badGroup own far (recordsIn (length table))) refl
     where
       o : Outcome
       o = outcomeAt own far table cic event
@@ -87,13 +77,13 @@ module _ (own far : ℕ) (table : List ℕ) (cic : ℕ) (event : Found) where
       go₁₂ h true e = refused 12 (λ e. omega arith)
       go₁₂ h false e = go₃ h (ltb-false _ _ e) (eqb (o .refusal) 0) refl
 
-      go₂ : (b : Bool) → leb (recordsIn (length table)) cic ≡ b → P (cond b (nowhere 2 table) (onCircuit (controls own far cic) table cic event))
-      go₂ true e = p₂
-      go₂ false e = go₁₂ (leb-false _ _ e) (ltb 15 (flagsAt table cic)) refl
+      go₂ : badGroup own far (recordsIn (length table)) ≡ false → (b : Bool) → leb (recordsIn (length table)) cic ≡ b → P (stepIn own far table cic event)
+      go₂ g true e = subst P (sym (noCircuit own far table cic event g (leb-true _ _ e))) p₂
+      go₂ g false e = subst P (sym (inGroup own far table cic event g (leb-false _ _ e))) (go₁₂ (leb-false _ _ e) (ltb 15 (flagsAt table cic)) refl)
 
-      go₁ : (b : Bool) → P (cond b (nowhere 1 table) (cond (leb (recordsIn (length table)) cic) (nowhere 2 table) (onCircuit (controls own far cic) table cic event)))
-      go₁ true = p₁
-      go₁ false = go₂ (leb (recordsIn (length table)) cic) refl
+      go₁ : (b : Bool) → badGroup own far (recordsIn (length table)) ≡ b → P (stepIn own far table cic event)
+      go₁ true e = subst P (sym (noGroup own far table cic event e)) p₁
+      go₁ false e = go₂ e (leb (recordsIn (length table)) cic) refl
 
   -- a refusal changes nothing lent
   pub refused : (stepIn own far table cic event .answer .refusal ≡ 0 → ⊥) → Untouched table (stepIn own far table cic event)
@@ -164,48 +154,20 @@ module _ (own far : ℕ) (table : List ℕ) (cic : ℕ) (event : Found) where
 
   -- each refusal number is given exactly when documents 01 and 02 say
   pub refusals : stepIn own far table cic event .answer .refusal ≡ refusalIn own far table cic event
-  unfolding stepIn onCircuit recordOf
-  refusals = go₁ (badGroup own far (recordsIn (length table))) (leb (recordsIn (length table)) cic) (ltb 15 (flagsAt table cic))
+  unfolding stepIn
+  refusals = numbered (refusalIn own far table cic event)
     where
-      c : Bool
-      c = controls own far cic
-
-      r : Record
-      r = recordAt table cic
-
       o : Outcome
       o = outcomeAt own far table cic event
 
-      n : ℕ
-      n = refusalFound r event
+      byFreed : (b : Bool) → cond b (released table cic o) (stored table cic o) .answer .refusal ≡ 0
+      byFreed true = refl
+      byFreed false = refl
 
-      known : o .refusal ≡ n
-      known = refusesFound c r event
+      byPlace : (n : ℕ) (b : Bool) → cond b (nowhere n table) (refusedAt n table cic) .answer .refusal ≡ n
+      byPlace n true = refl
+      byPlace n false = refl
 
-      -- only a valid record's event is accepted, and of a valid record the list says what frees
-      frees : n ≡ 0 → freed (stateAt table cic) o ≡ freesFound c (stateAt table cic) event
-      frees z = freesListedFound c r event (acceptedValid r event z)
-
-      last : (a b : Bool) → cond a (cond b (refusedAt 13 table cic) (released table cic o)) (stored table cic o) .answer .refusal ≡ cond (a && b) 13 0
-      last true true = refl
-      last true false = refl
-      last false b = refl
-
-      number : (b : Bool) → eqb (o .refusal) 0 ≡ b → cond b (accepted table cic o) (refusedAt (o .refusal) table cic) .answer .refusal ≡ cond b (cond (freesFound c (stateAt table cic) event && leb largest (counterIn table)) 13 0) (o .refusal)
-      number true e = rw (frees (sym known ∙ eqb-true _ _ e)) (last (freesFound c (stateAt table cic) event) (leb largest (counterIn table)))
-      number false e = refl
-
-      go₁ : (a b d : Bool) → cond a (nowhere 1 table) (cond b (nowhere 2 table) (cond d (refusedAt 12 table cic) (landed table cic o))) .answer .refusal ≡ cond a 1 (cond b 2 (cond d 12 (cond (eqb n 0) (cond (freesFound c (stateAt table cic) event && leb largest (counterIn table)) 13 0) n)))
-      go₁ true b d = refl
-      go₁ false true d = refl
-      go₁ false false true = refl
-      go₁ false false false = rw (sym known) (number (eqb (o .refusal) 0) refl)
-
--- the contract of `step` determines the answer and every octet of the table after it
-pub record Meets (own far : ℕ) (table : List ℕ) (cic : ℕ) (event : Found) (a : Answer) (after : List ℕ) : Type 0 where
-  pub answers : a ≡ stepIn own far table cic event .answer
-  pub leaves : after ≡ stepIn own far table cic event .table
-
-pub determined : {own far : ℕ} {table : List ℕ} {cic : ℕ} {event : Found} {a b : Answer} {t u : List ℕ}
-    → Meets own far table cic event a t → Meets own far table cic event b u → (a ≡ b) × (t ≡ u)
-determined p q = (p .answers ∙ sym (q .answers), p .leaves ∙ sym (q .leaves))
+      numbered : (n : ℕ) → answering n table cic o .answer .refusal ≡ n
+      numbered zero = byFreed (freed (stateAt table cic) o)
+      numbered (suc n) = byPlace (suc n) (leb (suc n) 2)

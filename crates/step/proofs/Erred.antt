@@ -8,19 +8,18 @@ use lib.Dec.{T, eqb, eqb→eq, leb, ltb, le→leb, leb→le}
 use borrow.Author.Tests.{ne-eqb}
 use Rattle.circuit.specs.declared.Record.{Record}
 use Rattle.circuit.specs.declared.Signal.the-variants.{Iam, Rsc}
-use Rattle.circuit.specs.declared.Sends.{Sends}
-use Rattle.circuit.specs.declared.Sends.the-variants.{Nothing, One, Two}
+use Rattle.circuit.specs.declared.Sends.the-variants.{One}
 use Rattle.circuit.specs.declared.Command.the-variants.{Restart}
 use Rattle.circuit.specs.declared.Event.{Event}
 use Rattle.circuit.specs.declared.Event.the-variants.{Arrives, Ordered}
-use Rattle.circuit.specs.Records.{to, valid, restarted, flagsAllowed, onlyFar}
+use Rattle.circuit.specs.Records.{valid, restarted, flagsAllowed, onlyFar}
 use Rattle.circuit.specs.Rows.{first, answered}
 use Rattle.circuit.specs.Every.{implies}
 use Rattle.circuit.proofs.Every.{then, left, right, both, isTrue, everywhere, atValid}
-use Rattle.step.specs.Step.{step}
+use Rattle.step.specs.Step.{step, sent}
 use Rattle.step.specs.Refusals.{within}
 use Rattle.step.specs.Frees.{frees}
-use Rattle.step.specs.Always.{freesListed, sent}
+use Rattle.step.proofs.Always.{freesListed}
 
 out : (s : ℕ) → T (within s 1 5) → T (not (eqb s 0))
 out s w = let h : 1 ≤ s = leb→le 1 s (left (leb 1 s) _ w) in rw (ne-eqb s 0 (λ e. omega arith)) tt

@@ -2,38 +2,25 @@
 -- from it.
 -- Assumes nothing.
 use mathlib.Core.Path.{_≡_, refl, sym, subst}
-use mathlib.Core.Bool.{Bool, true, false, not, cond, _&&_, _||_}
+use mathlib.Core.Bool.{Bool, true, false, not, cond, _&&_}
 use Prim.Native.Nat.{ℕ}
-use lib.Dec.{T, eqb, leb, eqb→eq, eqb-refl}
+use lib.Dec.{T, eqb, eqb→eq}
 use Rattle.circuit.specs.declared.Record.{Record}
 use Rattle.circuit.specs.declared.Failure.the-variants.{Sec, Cgc, Nnc, Adi, Cfl, Ssb, Unn, Los, Sst}
 use Rattle.circuit.specs.declared.Signal.the-variants.{Iam, Acm, Anc, Ann, Cbk, Clf, Ran, Rlg, Blo, Bla, Ubl, Uba, Rsc, Fail}
-use Rattle.circuit.specs.declared.Sends.{Sends}
-use Rattle.circuit.specs.declared.Sends.the-variants.{Nothing, One, Two}
 use Rattle.circuit.specs.declared.Command.the-variants.{Seize, Release, AddressComplete, Answer, ClearBack, ReAnswer, FailCall, Block, Unblock, Restart}
 use Rattle.circuit.specs.declared.Timer.the-variants.{AddressWait, AnswerWait, IncomingHangUp, Repeat, OneMinute, BlockRepeat}
 use Rattle.circuit.specs.declared.Event.{Event}
 use Rattle.circuit.specs.declared.Event.the-variants.{Arrives, Ordered, RunsOut}
-use Rattle.circuit.specs.declared.Outcome.{Outcome}
 use Rattle.circuit.specs.Records.{valid}
 use Rattle.circuit.specs.Rows.{first, refused}
 use Rattle.circuit.specs.Every.{implies}
 use Rattle.circuit.proofs.Every.{then, left, right, both, alike, alikeSame, everywhere, atValid}
 use Rattle.codes.specs.declared.Found.{Found}
 use Rattle.codes.specs.declared.Found.the-variants.{Is, Missing}
-use Rattle.step.specs.Step.{step, stepFound}
+use Rattle.step.specs.Step.{step, stepFound, isSignal, sent}
 use Rattle.step.specs.Frees.{freed, frees, freesFound}
-use Rattle.step.specs.Refusals.{allowed, runs, seizesBlocked, refusal, refusalFound}
-
-abbrev pub isSignal : Event → Bool
-isSignal (Arrives s) = true
-isSignal (Ordered k) = false
-isSignal (RunsOut t) = false
-
-abbrev pub sent : Sends → ℕ
-sent Nothing = 0
-sent (One s) = 1
-sent (Two s t) = 2
+use Rattle.step.specs.Refusals.{refusal}
 
 -- the claims of an event at a role and a record
 abbrev staysValid : Bool → Record → Event → Bool

@@ -5,22 +5,19 @@ use mathlib.Core.Bool.{Bool, true, false, not, cond, _&&_}
 use mathlib.Core.List.{List}
 use Prim.Native.Nat.{ℕ, _+_, _<_, _≤_}
 use native.Mathlib.Omega.{arith}
-use lib.Dec.{T, eqb, leb, ltb, leb→le}
+use lib.Dec.{eqb}
 use lib.ListN.{length}
 use borrow.Author.Tests.{eqb-true, eqb-false, eq-eqb}
 use Rattle.circuit.specs.declared.Record.{Record}
-use Rattle.circuit.specs.Records.{valid}
-use Rattle.circuit.specs.Groups.{badGroup, controls}
 use Rattle.codes.specs.declared.Found.{Found}
-use Rattle.codes.specs.declared.Found.the-variants.{Is, Missing}
-use Rattle.step.specs.Refusals.{refusal, refusalFound}
-use Rattle.step.specs.Frees.{freesFound}
+use Rattle.step.specs.Refusals.{refusal}
 use Rattle.words.specs.Words.{largest}
-use Rattle.layout.specs.Layout.{recordsIn, counterIn, stateAt, flagsAt, rankAt, recordAt, put, ranked, idle, idleRank, idleCounter, putState, putLength, putKeepsCounter, putKeepsRank, rankedState, rankedCounter, rankedRank, otherRank}
+use Rattle.layout.specs.Layout.{recordsIn, counterIn, stateAt, rankAt, put, ranked, idle}
+use Rattle.layout.proofs.Laws.{idleRank, idleCounter, putState, putLength, putKeepsCounter, putKeepsRank, rankedState, rankedCounter, rankedRank, otherRank}
 use Rattle.group.specs.Table.{stepIn}
-use Rattle.group.specs.Laws.{byCases, keepsLength, refusals}
+use Rattle.group.proofs.Laws.{byCases, keepsLength}
 use Rattle.group.specs.Runs.{Follows, Follows.start, Follows.next, events}
-use Rattle.group.specs.Valid.{low}
+use Rattle.group.proofs.Valid.{high}
 
 -- the circuit went from another state to idle
 abbrev pub idled : (before after : List ℕ) → (cic : ℕ) → Bool
@@ -170,33 +167,8 @@ later own far first second i j e f p between q =
     omega (arith, freedRank (counted own far first i e) p, freedCounter (counted own far first i e) p, neverFalls between, freedRank (counted own far second j f) q)
 
 -- 13 is given at the largest value only
-lowFound : (r : Record) (f : Found) → refusalFound r f ≤ 12
-lowFound r (Is e) = go (valid r)
-  where
-    go : (b : Bool) → cond b (refusal r e) 12 ≤ 12
-    go true = omega (arith, low r e)
-    go false = omega arith
-lowFound r Missing = go (valid r)
-  where
-    go : (b : Bool) → cond b 3 12 ≤ 12
-    go true = omega arith
-    go false = omega arith
-
 pub spentAt : (own far : ℕ) (table : List ℕ) (cic : ℕ) (event : Found) → stepIn own far table cic event .answer .refusal ≡ 13 → largest ≤ counterIn table
-spentAt own far table cic event e =
-    leb→le largest (counterIn table)
-    (go (badGroup own far (recordsIn (length table))) (leb (recordsIn (length table)) cic) (ltb 15 (flagsAt table cic)) (eqb (refusalFound (recordAt table cic) event) 0)
-    (freesFound (controls own far cic) (stateAt table cic) event) (leb largest (counterIn table)) (refusalFound (recordAt table cic) event)
-    (lowFound (recordAt table cic) event) (sym (refusals own far table cic event) ∙ e))
-  where
-    go : (a b c d f spent : Bool) (n : ℕ) → n ≤ 12 → cond a 1 (cond b 2 (cond c 12 (cond d (cond (f && spent) 13 0) n))) ≡ 13 → T spent
-    go true b c d f spent n h k = absurd (omega arith)
-    go false true c d f spent n h k = absurd (omega arith)
-    go false false true d f spent n h k = absurd (omega arith)
-    go false false false false f spent n h k = absurd (omega arith)
-    go false false false true false spent n h k = absurd (omega arith)
-    go false false false true true true n h k = tt
-    go false false false true true false n h k = absurd (omega arith)
+spentAt own far table cic event e = high own far table cic event 13 (omega arith) e .1 refl
 
 -- so a group that starts idle answers 13 at none of its first 2^64 - 1 events
 once : (b : Bool) (n m k : ℕ) → m ≡ cond b (n + 1) n → n ≤ k → m ≤ k + 1
