@@ -1,5 +1,3 @@
 pub mod First
 pub mod Selection
-pub mod Orders
-pub mod Search
-pub mod Laws
+pub mod Way

@@ -1,12 +1,13 @@
 -- Which circuit to seize (document 02, T-02, by Q.724, 2.4, method 2). This says what the answer is, not how it is found.
 -- Assumes nothing.
 use mathlib.Core.Bool.{Bool, not, cond, _&&_, _||_}
-use mathlib.Core.List.{List}
-use Prim.Native.Nat.{ℕ, _+_}
+use mathlib.Core.List.{List, [], _∷_}
+use Prim.Native.Nat.{ℕ, zero, suc, _+_}
 use lib.Dec.{eqb, leb, ltb}
 use lib.ListN.{length}
 use Rattle.circuit.specs.declared.Cic.{Cic}
 use Rattle.circuit.specs.Groups.{badGroup, controls}
+use Rattle.circuit.specs.Refusals.{Rule, refuse, firstOf}
 use Rattle.layout.specs.Layout.{recordsIn, stateAt, flagsAt, rankAt, recordOf, allowedAt}
 use Rattle.select.specs.declared.Selected.{Selected}
 use Rattle.select.specs.First.{first, some, best}
@@ -46,19 +47,28 @@ stops mine table i = ours mine table i && eqb (rankAt table i) 0
 abbrev pub looked : (mine : ℕ → Bool) → List ℕ → (n : ℕ) → ℕ
 looked mine table n = cond (some n (stops mine table)) (first n (stops mine table) + 1) n
 
--- of n circuits: first, of ours, the one released longest ago; if there are none, of theirs, the one released latest; 14 if there are none either
+-- of n circuits: first, of ours, the one released longest ago; if there are none, of theirs, the one released latest
 unfoldable pub choice : (mine : ℕ → Bool) → List ℕ → (n : ℕ) → Selected
 choice mine table n =
     cond (some n (ours mine table)) (taken (best n (ours mine table) (earlier table)) (looked mine table n))
-    (cond (some n (theirs mine table)) (taken (best n (theirs mine table) (later table)) n)
-    (refused 14))
+    (taken (best n (theirs mine table) (later table)) n)
 
--- 1; then 12 for any bad record of the table
+-- a record that document 01 does not allow
 abbrev pub bad : List ℕ → ℕ → Bool
 bad table i = not (allowedAt table i)
 
+-- 1; then 12 for any bad record of the table; then 14 if no circuit qualifies
+abbrev pub selectRules : (own far : ℕ) → List ℕ → List Rule
+selectRules own far table =
+    refuse 1 (badGroup own far (recordsIn (length table)))
+    ∷ refuse 12 (some (recordsIn (length table)) (bad table))
+    ∷ refuse 14 (not (some (recordsIn (length table)) (qualifies table)))
+    ∷ []
+
+-- by the refusal, 0 for none
+abbrev pub choosing : (refusal : ℕ) → Selected → Selected
+choosing zero s = s
+choosing (suc n) s = refused (suc n)
+
 unfoldable pub selectIn : (own far : ℕ) → List ℕ → Selected
-selectIn own far table =
-    cond (badGroup own far (recordsIn (length table))) (refused 1)
-    (cond (some (recordsIn (length table)) (bad table)) (refused 12)
-    (choice (controls own far) table (recordsIn (length table))))
+selectIn own far table = choosing (firstOf (selectRules own far table)) (choice (controls own far) table (recordsIn (length table)))

@@ -9,8 +9,8 @@ ghost use lib.ListN.{length};
 ghost use Rattle.layout.specs.Layout.{recordsIn};
 ghost use Rattle.circuit.specs.Groups.{lowest, byParity};
 ghost use Rattle.select.specs.First.{some};
-ghost use Rattle.select.specs.Selection.{refused, taken, free, choice, selectIn};
-ghost use Rattle.select.specs.Search.{badFrom, concluded, searched, Led};
+ghost use Rattle.select.specs.Selection.{refused, taken, free, selectIn};
+ghost use Rattle.select.specs.Way.{badFrom, concluded, searched, Led, sought};
 
 // What selection answers: the refusal's number, 0 where there is none; the circuit; how many records were looked at.
 pub struct Selected {
@@ -72,7 +72,7 @@ fn allowed_from(table: &[u8], from: u32, records: u32) -> bool
 fn ours_from(table: &[u8], from: u32, best: u32, rank: u64, records: u32) -> Selected
     requires { ⌜ (records ≤ recordsIn (length (now table))) × (records ≤ 4096) × (best < records) ⌝ }
     requires { ⌜ Led (byParity (from % 2)) (now table) from best rank ⌝ }
-    ensures { λ r. ⌜ r ≡ choice (byParity (from % 2)) (now (table .entry)) records ⌝ }
+    ensures { λ r. ⌜ r ≡ sought (byParity (from % 2)) (now (table .entry)) records ⌝ }
 {
     let mut chosen = best;
     let mut lowest = rank;
@@ -95,7 +95,7 @@ fn ours_from(table: &[u8], from: u32, best: u32, rank: u64, records: u32) -> Sel
     taken(chosen, records)
 }
 
-// The whole table was looked at, and none of ours qualifies: the best of theirs, for none of which `records` stands.
+// None of ours qualified; `theirs` is their best, or `records` if there is none.
 fn conclude(theirs: u32, records: u32) -> Selected
     ensures { λ r. ⌜ r ≡ concluded theirs records ⌝ }
 {

@@ -4,7 +4,7 @@ use Prim.Native.Nat.{_-_}
 use mathlib.Core.Path.{_∙_}
 use borrow.Author.Tests.{not-true, not-false}
 use borrow.Author.Needs.{needs}
-use Rattle.select.specs.Search.{judged, GoodFrom, goodStart, goodNext, goodNot, goodEnd}
+use Rattle.select.proofs.Searching.{judged, GoodFrom, goodStart, goodNext, goodNot, goodEnd}
 use Rattle.select.proofs.allowed_from.Statement.{statement}
 use Rattle.select.proofs.allowed_from.Tie as tie
 

@@ -7,7 +7,8 @@ use mathlib.Core.Logic.{⊎-elim}
 use borrow.Author.Tests.{not-true, not-false, eq-eqb}
 use borrow.Author.Needs.{needs}
 use Rattle.circuit.specs.Groups.{byParity}
-use Rattle.select.specs.Search.{freeAt, rankIs, Led, ledBusy, ledNew, ledStays, ledEnd, everySecond, sameParity, stopHere}
+use Rattle.select.specs.Way.{Led}
+use Rattle.select.proofs.Searching.{freeAt, rankIs, ledBusy, ledNew, ledStays, ledEnd, everySecond, sameParity, stopHere}
 use Rattle.select.proofs.ours_from.Statement.{statement}
 use Rattle.select.proofs.ours_from.Tie as tie
 

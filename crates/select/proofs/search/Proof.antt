@@ -7,7 +7,7 @@ use mathlib.Core.Logic.{⊎-elim}
 use borrow.Author.Tests.{not-true, not-false, eq-eqb, ne-eqb}
 use borrow.Author.Needs.{needs}
 use Rattle.circuit.specs.Groups.{byParity}
-use Rattle.select.specs.Search.{judged, freeAt, rankIs, Scanned, scanStart, noStop, scanBusy, scanTheirs, scanTheirsStay, scanFirst, scanBad, stopHere, everySecond, sameParity, scanEnd, allGood, noneBehind, badBehind}
+use Rattle.select.proofs.Searching.{scanTheirs, scanTheirsStay, scanFirst, noneBehind, badBehind, judged, freeAt, rankIs, Scanned, scanStart, noStop, scanBusy, scanBad, stopHere, everySecond, sameParity, scanEnd, allGood}
 use Rattle.select.proofs.search.Statement.{statement}
 use Rattle.select.proofs.search.Tie as tie
 

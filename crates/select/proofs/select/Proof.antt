@@ -3,7 +3,7 @@
 use native.Mathlib.Omega.{arith}
 use mathlib.Core.Path.{sym, _∙_}
 use Rattle.circuit.proofs.Groups.{atMost4096}
-use Rattle.select.specs.Search.{noGroup, inGroup}
+use Rattle.select.proofs.Searching.{noGroup, inGroup}
 use borrow.Author.Needs.{needs}
 use Rattle.select.proofs.select.Statement.{statement}
 use Rattle.select.proofs.select.Tie as tie

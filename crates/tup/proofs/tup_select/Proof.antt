@@ -1,6 +1,6 @@
 -- `tup::tup_select` meets its contract.
 -- Assumes nothing.
-use Rattle.select.specs.Laws.{small}
+use Rattle.select.proofs.Laws.{small}
 use borrow.Author.Needs.{needs}
 use Rattle.tup.proofs.tup_select.Statement.{statement}
 use Rattle.tup.proofs.tup_select.Tie as tie

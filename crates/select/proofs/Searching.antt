@@ -5,40 +5,59 @@ use mathlib.Core.Bool.{Bool, true, false, not, cond, _&&_, _||_}
 use mathlib.Core.List.{List}
 use Prim.Native.Nat.{ℕ, suc, _+_, _%_, _<_, _≤_}
 use native.Mathlib.Omega.{arith}
-use lib.Dec.{T, eqb, leb, ltb, eqb→eq, leb→le, ltb→lt, lt→ltb}
-use borrow.Author.Tests.{not-true, not-false, eqb-true, eqb-false, ne-eqb, leb-false, le-leb}
+use lib.Dec.{T, eqb, leb, ltb, eqb→eq, leb→le, ltb→lt, lt→ltb, not-T}
+use borrow.Author.Tests.{ltb-true, not-true, not-false, eqb-true, eqb-false, ne-eqb, leb-false, le-leb}
 use lib.ListN.{length}
 use Rattle.circuit.specs.Groups.{badGroup, byParity, controls}
 use Rattle.circuit.proofs.Every.{left, right, both}
 use Rattle.layout.specs.declared.Stored.{Stored}
 use Rattle.layout.specs.Layout.{recordsIn, stateAt, flagsAt, rankAt, allowed, allowedAt, stored, storedAt}
 use Rattle.layout.proofs.Laws.{storedIn}
-use Rattle.select.specs.declared.Selected.{Selected}
-use Rattle.select.specs.First.{some, firstAt, firstSame, someAt, noneOf, Best, theBest, starts, takes, stays, withLast}
-use Rattle.select.specs.Orders.{before, Ahead.byRank, aheadIs, order, lowerFirst, firstUnused}
-use Rattle.select.specs.Selection.{refused, taken, free, ours, theirs, earlier, later, stops, looked, choice, bad, selectIn}
-
--- a bad record from one on
-abbrev pub badFrom : List ℕ → (from : ℕ) → ℕ → Bool
-badFrom table from i = leb from i && bad table i
-
--- where it has looked at n records and found none of ours
-abbrev pub concluded : (theirs n : ℕ) → Selected
-concluded theirs n = cond (eqb theirs n) (refused 14) (taken theirs n)
-
--- the whole search in n records
-abbrev pub searched : (mine : ℕ → Bool) → List ℕ → (n : ℕ) → Selected
-searched mine table n = cond (some n (bad table)) (refused 12) (choice mine table n)
+use Rattle.select.specs.First.{first, some, best}
+use Rattle.select.specs.Way.{Best, badFrom, concluded, sought, searched, Led}
+use Rattle.select.proofs.First.{firstHolds, firstAt, firstSame, someAt, noneOf, noneAt, theBest, starts, takes, stays, withLast}
+use Rattle.select.proofs.Orders.{before, Ahead.byRank, aheadIs, order, lowerFirst, firstUnused}
+use Rattle.select.specs.Selection.{refused, taken, free, qualifies, ours, theirs, earlier, later, stops, looked, choice, bad, choosing, selectIn}
 
 -- the group is refused, or searched
 module _ (own far : ℕ) (table : List ℕ) where
+  abbrev n : ℕ
+  n = recordsIn (length table)
+
+  abbrev mine : ℕ → Bool
+  mine = controls own far
+
   pub noGroup : badGroup own far (recordsIn (length table)) ≡ true → refused 1 ≡ selectIn own far table
   unfolding selectIn
   noGroup bad = rw bad
 
+  -- one of ours or of theirs that qualifies is one that qualifies
+  someQualify : (among : ℕ → Bool) → ((j : ℕ) → T (among j) → T (qualifies table j)) → some n among ≡ true → some n (qualifies table) ≡ true
+  someQualify among is e = let l : first n among < n = ltb-true _ _ e in someAt n (qualifies table) (first n among) l (is (first n among) (firstHolds n among l))
+
+  noneQualify : some n (ours mine table) ≡ false → some n (theirs mine table) ≡ false → some n (qualifies table) ≡ false
+  noneQualify o t = noneOf n (qualifies table) (λ j h q.
+      noneAt n (theirs mine table) t j h (both (qualifies table j) _ q (not-T (mine j) (λ c. noneAt n (ours mine table) o j h (both (qualifies table j) _ q c)))))
+
+  -- 14 is given exactly where the search finds neither
+  chosen : choosing (cond (not (some n (qualifies table))) 14 0) (choice mine table n) ≡ sought mine table n
+  unfolding choice sought
+  chosen = go (some n (ours mine table)) refl (some n (theirs mine table)) refl
+    where
+      go : (x : Bool) → some n (ours mine table) ≡ x → (y : Bool) → some n (theirs mine table) ≡ y
+          → choosing (cond (not (some n (qualifies table))) 14 0) (cond x (taken (best n (ours mine table) (earlier table)) (looked mine table n)) (taken (best n (theirs mine table) (later table)) n))
+          ≡ cond x (taken (best n (ours mine table) (earlier table)) (looked mine table n)) (cond y (taken (best n (theirs mine table) (later table)) n) (refused 14))
+      go true e y f = rw (someQualify (ours mine table) (λ j t. left (qualifies table j) _ t) e)
+      go false e true f = rw (someQualify (theirs mine table) (λ j t. left (qualifies table j) _ t) f)
+      go false e false f = rw (noneQualify e f)
+
   pub inGroup : badGroup own far (recordsIn (length table)) ≡ false → searched (controls own far) table (recordsIn (length table)) ≡ selectIn own far table
   unfolding selectIn
-  inGroup good = rw good
+  inGroup good = rw good (go (some n (bad table)))
+    where
+      go : (b : Bool) → cond b (refused 12) (sought mine table n) ≡ choosing (cond b 12 (cond (not (some n (qualifies table))) 14 0)) (choice mine table n)
+      go true = refl
+      go false = sym chosen
 
 -- what the program reads of a record
 module _ (table : List ℕ) (i n : ℕ) {s : Stored} (all : n ≤ recordsIn (length table)) (h : i < n) (e : s ≡ storedAt table i) where
@@ -109,12 +128,6 @@ module _ (table : List ℕ) (among : ℕ → Bool) (n : ℕ) {i c r : ℕ} (h : 
               best = λ d. stays (order false table) (h .best some) (λ s. lowerFirst false table c i (h .best some .below) (λ t. rw (← is, ← h .rank some, e) at t));
               rank = h .rank;
             }
-
--- once one of ours is found, after i records: o with rank p is the best of ours, and none stops the search
-pub record Led (mine : ℕ → Bool) (table : List ℕ) (i o p : ℕ) : Type 0 where
-  pub best : Best (ours mine table) (earlier table) i o
-  pub rank : p ≡ rankAt table o
-  pub on : (j : ℕ) → j < i → T (stops mine table j) → ⊥
 
 module _ (mine : ℕ → Bool) (table : List ℕ) {i o p : ℕ} (l : Led mine table i o p) where
   past : (T (ours mine table i) → ⊥) → Led mine table (suc i) o p
@@ -220,17 +233,17 @@ module _ (mine : ℕ → Bool) (table : List ℕ) where
             on = withLast i (λ j. T (stops mine table j) → ⊥) (noStop s) (λ x. used (r ∙ eqb→eq _ _ (right (ours mine table i) _ x)));
           }
 
-  -- the definition's choice, from the best of ours or of theirs
-  choiceOurs : (n b k : ℕ) → Best (ours mine table) (earlier table) n b → looked mine table n ≡ k → choice mine table n ≡ taken b k
-  unfolding choice
+  -- what is sought, from the best of ours or of theirs
+  choiceOurs : (n b k : ℕ) → Best (ours mine table) (earlier table) n b → looked mine table n ≡ k → sought mine table n ≡ taken b k
+  unfolding sought
   choiceOurs n b k w e = rw (someAt n (ours mine table) b (w .below) (w .is), theBest (order true table) w, e)
 
-  choiceTheirs : (n b : ℕ) → ((j : ℕ) → j < n → T (ours mine table j) → ⊥) → Best (theirs mine table) (later table) n b → choice mine table n ≡ taken b n
-  unfolding choice
+  choiceTheirs : (n b : ℕ) → ((j : ℕ) → j < n → T (ours mine table j) → ⊥) → Best (theirs mine table) (later table) n b → sought mine table n ≡ taken b n
+  unfolding sought
   choiceTheirs n b none w = rw (noneOf n (ours mine table) none, someAt n (theirs mine table) b (w .below) (w .is), theBest (order false table) w)
 
-  choiceNone : (n : ℕ) → ((j : ℕ) → j < n → T (ours mine table j) → ⊥) → ((j : ℕ) → j < n → T (theirs mine table j) → ⊥) → choice mine table n ≡ refused 14
-  unfolding choice
+  choiceNone : (n : ℕ) → ((j : ℕ) → j < n → T (ours mine table j) → ⊥) → ((j : ℕ) → j < n → T (theirs mine table j) → ⊥) → sought mine table n ≡ refused 14
+  unfolding sought
   choiceNone n none neither = rw (noneOf n (ours mine table) none, noneOf n (theirs mine table) neither)
 
   -- a bad record
@@ -241,12 +254,12 @@ module _ (mine : ℕ → Bool) (table : List ℕ) where
   pub scanEnd : {n t q : ℕ} → Scanned mine table n n t q → concluded t n ≡ searched mine table n
   scanEnd {n} {t} s = rw (noneOf n (bad table) (s .good)) (go (eqb t n) refl)
     where
-      go : (b : Bool) → eqb t n ≡ b → cond b (refused 14) (taken t n) ≡ choice mine table n
+      go : (b : Bool) → eqb t n ≡ b → cond b (refused 14) (taken t n) ≡ sought mine table n
       go false d = sym (choiceTheirs n t (s .none) (s .theirs .best (eqb-false t n d)))
       go true d = sym (choiceNone n (s .none) (s .theirs .none (eqb-true t n d)))
 
   -- where no record is bad
-  pub allGood : (n : ℕ) → some n (bad table) ≡ false → choice mine table n ≡ searched mine table n
+  pub allGood : (n : ℕ) → some n (bad table) ≡ false → sought mine table n ≡ searched mine table n
   allGood n e = rw e
 
   -- one of ours is found: the records behind it are judged
@@ -272,11 +285,11 @@ module _ (mine : ℕ → Bool) (table : List ℕ) where
     here : T (stops mine table i)
     here = rw (is, c, unused) tt
 
-    pub stopHere : taken i (i + 1) ≡ choice mine table n
+    pub stopHere : taken i (i + 1) ≡ sought mine table n
     stopHere =
         sym (choiceOurs n i (i + 1) (firstUnused mine table n i h here on) (rw (someAt n (stops mine table) i h here, firstAt n (stops mine table) i h here on)))
 
   -- the whole table, where one of ours was found
-  pub ledEnd : {i o p : ℕ} → Led mine table i o p → (n : ℕ) → n ≤ i → o < n → taken o n ≡ choice mine table n
+  pub ledEnd : {i o p : ℕ} → Led mine table i o p → (n : ℕ) → n ≤ i → o < n → taken o n ≡ sought mine table n
   ledEnd {i} {o} {p} l n past below =
       sym (choiceOurs n o n (record { below = below; is = l .best .is; goesFirst = λ j h t. l .best .goesFirst j (omega arith) t }) (rw (noneOf n (stops mine table) (λ j h. l .on j (omega arith)))))

@@ -9,7 +9,8 @@ use lib.Dec.{T, eqb, leb, ltb, eqb→eq, leb→le, ltb→lt, lt→ltb, nltb→le
 use borrow.Author.Tests.{eqb-true, eqb-false, eq-eqb, leb-true, leb-false, le-leb}
 use Rattle.circuit.proofs.Every.{left, right, both}
 use Rattle.layout.specs.Layout.{rankAt}
-use Rattle.select.specs.First.{Best, Order}
+use Rattle.select.specs.Way.{Best}
+use Rattle.select.proofs.First.{Order}
 use Rattle.select.specs.Selection.{ours, earlier, stops}
 
 -- a rank goes before another: of our own the lower one, of theirs the higher one

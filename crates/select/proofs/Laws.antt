@@ -1,28 +1,32 @@
 -- What holds of every choice, in the words of document 02 (T-02) and of Q.724, 2.4, method 2.
 -- Assumes nothing.
-use mathlib.Core.Path.{_≡_, refl, sym, _∙_}
+use mathlib.Core.Path.{_≡_, refl, _∙_, subst}
 use mathlib.Core.Bool.{Bool, true, false, not, cond}
 use mathlib.Core.List.{List}
-use Prim.Native.Nat.{ℕ, _+_, _<_, _≤_}
+use Prim.Native.Nat.{ℕ, zero, suc, _+_, _<_, _≤_}
 use native.Mathlib.Omega.{arith}
-use lib.Dec.{T, leb, leb→le, ltb→lt, T-not, not-T}
+use lib.Dec.{T, eqb, ltb→lt, T-not, not-T}
 use lib.ListN.{length}
-use borrow.Author.Tests.{ltb-true, lt-leb, le-ltb}
+use borrow.Author.Tests.{ltb-true, lt-leb}
 use Rattle.circuit.specs.declared.Command.the-variants.{Seize}
 use Rattle.circuit.specs.declared.Event.the-variants.{Ordered}
-use Rattle.circuit.specs.Records.{valid}
+use Rattle.circuit.specs.Refusals.{firstOf}
 use Rattle.circuit.specs.Groups.{badGroup, controls}
 use Rattle.circuit.proofs.Groups.{oneControls, atMost4096}
 use Rattle.circuit.proofs.Every.{left, right, both, isTrue}
 use Rattle.codes.specs.declared.Found.the-variants.{Is}
-use Rattle.layout.specs.Layout.{recordsIn, flagsAt, rankAt, recordOf, recordAt, allowedAt}
+use Rattle.layout.specs.Layout.{recordsIn, stateAt, rankAt, recordOf, recordAt, allowedAt}
 use Rattle.group.specs.Table.{stepIn}
 use Rattle.group.specs.Refusals.{refusalIn}
-use Rattle.group.specs.Laws as Group
+use Rattle.group.proofs.Laws as Group
 use Rattle.select.specs.declared.Selected.{Selected}
-use Rattle.select.specs.First.{first, some, best, firstHolds, firstNot, someAt, noneOf, noneAt, Best, theBest, isTheBest}
-use Rattle.select.specs.Selection.{refused, taken, qualifies, ours, theirs, earlier, later, stops, looked, choice, bad, selectIn}
-use Rattle.select.specs.Orders.{before, Ahead, Ahead.byRank, Ahead.byNumber, view, order, firstUnused}
+use Rattle.select.specs.First.{first, some, best}
+use Rattle.select.specs.Way.{Best}
+use Rattle.select.proofs.First.{firstHolds, firstNot, noneOf, noneAt, theBest, isTheBest}
+use Rattle.select.specs.Selection.{refused, taken, qualifies, ours, theirs, earlier, later, stops, looked, choice, bad, selectRules, choosing, selectIn}
+use Rattle.select.specs.Way.{sought}
+use Rattle.select.proofs.Searching.{noGroup, inGroup}
+use Rattle.select.proofs.Orders.{before, Ahead, Ahead.byRank, Ahead.byNumber, view, order, firstUnused}
 
 -- i was released before j, or with the same rank and i is not above j
 pub record Earlier (table : List ℕ) (i j : ℕ) : Type 0 where
@@ -36,6 +40,10 @@ pub record Later (table : List ℕ) (i j : ℕ) : Type 0 where
 allowedIs : (b : Bool) → (T (not b) → ⊥) → b ≡ true
 allowedIs true n = refl
 allowedIs false n = absurd (n tt)
+
+isOff : (b : Bool) → T (not b) → b ≡ false
+isOff true t = absurd t
+isOff false t = refl
 
 isEarlier : (table : List ℕ) (i j : ℕ) → T (earlier table i j) → Earlier table i j
 isEarlier table i j t = go (view (before true) (rankAt table i) (rankAt table j) i j t)
@@ -66,7 +74,7 @@ module _ (own far : ℕ) (table : List ℕ) where
       → (badGroup own far n ≡ false → some n (bad table) ≡ false → some n (ours mine table) ≡ false → some n (theirs mine table) ≡ true → P (taken (best n (theirs mine table) (later table)) n))
       → (badGroup own far n ≡ false → some n (bad table) ≡ false → some n (ours mine table) ≡ false → some n (theirs mine table) ≡ false → P (refused 14))
       → P (selectIn own far table)
-  unfolding selectIn choice
+  unfolding sought
   byCases P p₁ p₁₂ ofOurs ofTheirs p₁₄ = go₁ (badGroup own far n) refl
     where
       go₁₄ : badGroup own far n ≡ false → some n (bad table) ≡ false → some n (ours mine table) ≡ false → (b : Bool) → some n (theirs mine table) ≡ b → P (cond b (taken (best n (theirs mine table) (later table)) n) (refused 14))
@@ -77,13 +85,13 @@ module _ (own far : ℕ) (table : List ℕ) where
       goₒ g a true e = ofOurs g a e
       goₒ g a false e = go₁₄ g a e (some n (theirs mine table)) refl
 
-      go₁₂ : badGroup own far n ≡ false → (b : Bool) → some n (bad table) ≡ b → P (cond b (refused 12) (choice mine table n))
+      go₁₂ : badGroup own far n ≡ false → (b : Bool) → some n (bad table) ≡ b → P (cond b (refused 12) (sought mine table n))
       go₁₂ g true e = p₁₂ g e
       go₁₂ g false e = goₒ g e (some n (ours mine table)) refl
 
-      go₁ : (b : Bool) → badGroup own far n ≡ b → P (cond b (refused 1) (cond (some n (bad table)) (refused 12) (choice mine table n)))
-      go₁ true e = p₁ e
-      go₁ false e = go₁₂ e (some n (bad table)) refl
+      go₁ : (b : Bool) → badGroup own far n ≡ b → P (selectIn own far table)
+      go₁ true e = subst P (noGroup own far table e) (p₁ e)
+      go₁ false e = subst P (inGroup own far table e) (go₁₂ e (some n (bad table)) refl)
 
   abbrev s : Selected
   s = selectIn own far table
@@ -142,20 +150,17 @@ module _ (own far : ℕ) (table : List ℕ) where
       (λ g a o u r. absurd (omega arith))
 
   -- each refusal is given exactly when document 02 says: 1; then 12 for any bad record; then 14 if no circuit qualifies
-  abbrev pub Refuses : Selected → Type 0
-  Refuses s = s .refusal ≡ cond (badGroup own far n) 1 (cond (some n (bad table)) 12 (cond (some n (qualifies table)) 0 14))
-
-  pub refusals : Refuses s
-  refusals =
-      byCases Refuses
-      (λ g. rw g) (λ g a. rw (g, a))
-      (λ g a o. rw (g, a, someAt n (qualifies table) _ (best₁ o .below) (left (qualifies table (best n (ours mine table) (earlier table))) _ (best₁ o .is))))
-      (λ g a o t. rw (g, a, someAt n (qualifies table) _ (best₂ t .below) (left (qualifies table (best n (theirs mine table) (later table))) _ (best₂ t .is))))
-      (λ g a o t. rw (g, a, noneOf n (qualifies table) (neither o t)))
+  pub refusals : s .refusal ≡ firstOf (selectRules own far table)
+  unfolding selectIn choice
+  refusals = numbered (firstOf (selectRules own far table))
     where
-      neither : some n (ours mine table) ≡ false → some n (theirs mine table) ≡ false → (j : ℕ) → j < n → T (qualifies table j) → ⊥
-      neither o t j h q =
-          noneAt n (theirs mine table) t j h (both (qualifies table j) _ q (not-T (controls own far j) (λ c. noneAt n (ours mine table) o j h (both (qualifies table j) _ q c))))
+      accepted : (b : Bool) → cond b (taken (best n (ours mine table) (earlier table)) (looked mine table n)) (taken (best n (theirs mine table) (later table)) n) .refusal ≡ 0
+      accepted true = refl
+      accepted false = refl
+
+      numbered : (k : ℕ) → choosing k (choice mine table n) .refusal ≡ k
+      numbered zero = accepted (some n (ours mine table))
+      numbered (suc k) = refl
 
   -- the count: the whole table, unless one of ours that qualifies has rank 0: then the first of these is chosen, and the count is its number plus one
   abbrev pub Counts : Selected → Type 0
@@ -208,10 +213,9 @@ module _ (own far : ℕ) (table : List ℕ) where
       go : (i : ℕ) → i < n → T (qualifies table i) → (badGroup own far n ≡ false) × (some n (bad table) ≡ false) → refusalIn own far table i (Is (Ordered Seize)) ≡ 0
       go i h q w =
           let ok : allowedAt table i ≡ true = allowedIs (allowedAt table i) (λ b. noneAt n (bad table) (w .1) i h b) in
-          let good : T (allowedAt table i) = rw ok tt in
-          let low : flagsAt table i ≤ 15 = leb→le _ _ (left (leb (flagsAt table i) 15) (valid (recordAt table i)) good) in
-          let v : valid (recordAt table i) ≡ true = isTrue _ (right (leb (flagsAt table i) 15) (valid (recordAt table i)) good) in
-          rw (w .0, lt-leb n i h, le-ltb 15 (flagsAt table i) low, v, isTrue (qualifies table i) q)
+          let idle : eqb (stateAt table i) 0 ≡ true = isTrue _ (left (eqb (stateAt table i) 0) (not (recordAt table i .far)) q) in
+          let unblocked : recordAt table i .far ≡ false = isOff (recordAt table i .far) (right (eqb (stateAt table i) 0) (not (recordAt table i .far)) q) in
+          rw (w .0, lt-leb n i h, ok, idle, unblocked)
 
 -- two ends that choose at once, whatever their tables: while each has a circuit of its own that qualifies, they do not choose the same one
 pub neverMeet : (own far : ℕ) (here there : List ℕ) → (own ≡ far → ⊥) → selectIn own far here .refusal ≡ 0 → selectIn far own there .refusal ≡ 0
@@ -223,7 +227,3 @@ neverMeet own far here there different r q i h s j l t meet =
   where
     c : ℕ
     c = selectIn own far here .cic .0
-
--- the contract allows one answer
-pub determined : (own far : ℕ) (table : List ℕ) {a b : Selected} → a ≡ selectIn own far table → b ≡ selectIn own far table → a ≡ b
-determined own far table p q = p ∙ sym q

@@ -1,0 +1,4 @@
+pub mod First
+pub mod Searching
+pub mod Orders
+pub mod Laws
