@@ -10,20 +10,7 @@ ghost use Rattle.group.specs.Table.{stepIn};
 ghost use Rattle.select.specs.Selection.{selectIn};
 ghost use Rattle.link.specs.Entries.{readInto, writeFrom};
 ghost use Rattle.writer.specs.Writing.{said};
-ghost use Rattle.tup.specs.Packed.{octets, packed, Unpacks, Unpacked, packedChoice, ChoiceUnpacked};
-
-fn wide(x: u8) -> u64
-    ensures { λ r. ⌜ (r ≡ x) × (r < 256) ⌝ }
-{
-    x as u64
-}
-
-fn octets(a: u8, b: u8, c: u8, d: u8, e: u8, f: u8) -> u64
-    ensures packs { λ r. ⌜ r ≡ octets a b c d e f ⌝ }
-    ensures unpacks { λ r. ⌜ Unpacks r a b c d e f ⌝ }
-{
-    wide(a) + 256 * (wide(b) + 256 * (wide(c) + 256 * (wide(d) + 256 * (wide(e) + 256 * wide(f)))))
-}
+ghost use Rattle.tup.specs.Packed.{packed, Unpacked, packedChoice, ChoiceUnpacked};
 
 fn pack(a: Answer) -> u64
     ensures packs { λ r. ⌜ r ≡ packed a ⌝ }
@@ -32,7 +19,7 @@ fn pack(a: Answer) -> u64
     let sends = a.sends;
     let first = codes::first_heading(sends);
     let second = codes::second_heading(sends);
-    octets(a.refusal, a.ind, a.state, a.flags, first, second)
+    words::number(a.refusal, a.ind, a.state, a.flags, first, second, 0, 0)
 }
 
 // An event on a circuit of a group: own and far point code, the group's table of records, the circuit; the event by its kind (1 signal,
@@ -61,7 +48,7 @@ fn pack_choice(s: Selected) -> u64
     ensures unpacks { λ r. ⌜ ChoiceUnpacked r s ⌝ }
 {
     let cic = s.cic;
-    wide(s.refusal) + 0x10000 * (cic.0 as u64 + 0x10000 * (s.looked as u64))
+    s.refusal as u64 + 0x10000 * (cic.0 as u64 + 0x10000 * (s.looked as u64))
 }
 
 // Which circuit of a group to seize, and how many records were looked at, packed into one number. Nothing is seized.
