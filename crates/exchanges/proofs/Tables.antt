@@ -21,7 +21,7 @@ use Rattle.layout.specs.Layout.{recordsIn, stateAt, flagsAt, recordOf, recordAt
 use Rattle.layout.proofs.Laws.{idleState, idleFlags}
 use Rattle.group.specs.Table.{Step, stepIn}
 use Rattle.group.proofs.Laws.{Carries, Same, isStep, others, keepsLength}
-use Rattle.group.proofs.Valid.{ValidAt, ValidTable, staysValid, idleValid}
+use Rattle.group.proofs.Valid.{ValidTable, lowFlags, staysValid, idleValid}
 use Rattle.ends.specs.Ends as ends
 use Rattle.ends.proofs.Claim.{twoEndsAgree}
 use Rattle.exchanges.specs.Tables.{Exchange, endAt, Both, acted, arrival, given, elsewhere, Happening, Happening.arrives, Happening.host, Happening.beside, turn, arrivalRefusal, refusal, Reached, Reached.start, Reached.atFirst, Reached.atSecond, Claim}
@@ -61,7 +61,7 @@ module _ (own far cic : ℕ) where
       o = stepFound (controls own far cic) (recordAt table cic) e
 
       k : Carries cic o (stepIn own far table cic e)
-      k = isStep own far table cic e (g .group) (g .has) (g .valid cic (g .has) .flags) not13
+      k = isStep own far table cic e (g .group) (g .has) (lowFlags table cic (g .valid cic (g .has))) not13
 
   arrived : (table : List ℕ) (queue : List Signal) (other : Exchange) → Good own far cic table → (arrivalRefusal own far cic table queue ≡ 13 → ⊥) → ends.arrival (controls own far cic) (recordAt table cic) queue (endAt cic other) ≡ endsAt cic (arrival own far cic table queue other)
   arrived table [] other g not13 = refl

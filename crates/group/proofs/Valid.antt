@@ -35,7 +35,7 @@ ValidTable table = (i : ℕ) → i < recordsIn (length table) → T (allowedAt t
 allowedBy : (table : List ℕ) (i : ℕ) → flagsAt table i ≤ 15 → T (valid (recordAt table i)) → T (allowedAt table i)
 allowedBy table i h v = both (leb (flagsAt table i) 15) (valid (recordAt table i)) (le→leb _ _ h) v
 
-lowFlags : (table : List ℕ) (i : ℕ) → T (allowedAt table i) → flagsAt table i ≤ 15
+pub lowFlags : (table : List ℕ) (i : ℕ) → T (allowedAt table i) → flagsAt table i ≤ 15
 lowFlags table i t = leb→le _ _ (left (leb (flagsAt table i) 15) (valid (recordAt table i)) t)
 
 pub validAt : (table : List ℕ) (i : ℕ) → T (allowedAt table i) → T (valid (recordAt table i))

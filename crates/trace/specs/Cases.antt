@@ -7,7 +7,7 @@ use Rattle.text.specs.Numbers.{digitsWithin, decimal}
 use Rattle.text.specs.Lines.{field, stateAndFlags, headings, line, groupLine, endLine, cutLine}
 use Rattle.codes.specs.Numbers.{eventOf}
 use Rattle.step.specs.Step.{step, stepFound}
-use Rattle.group.specs.Table.{onCircuit, stepIn}
+use Rattle.group.specs.Table.{stepIn}
 use Rattle.words.specs.Words as words
 use Rattle.layout.specs.Layout.{recordsIn, counterIn, stateAt, flagsAt, flagsOf, recordOf, put, putCounter, putRank}
 use Rattle.circuit.specs.Rows.{first}
@@ -38,5 +38,5 @@ wholeText =
     []
 
 pub theWholeCase : replay wholeCase ≡ wholeText
-unfolding first words.number words.put recordsIn counterIn stateAt flagsAt flagsOf recordOf put putCounter putRank replay lines linesWithin textAt item recorded octetsOf happens stepIn onCircuit stepFound step eventOf line groupLine endLine cutLine field stateAndFlags headings decimal digitsWithin
+unfolding first words.number words.put recordsIn counterIn stateAt flagsAt flagsOf recordOf put putCounter putRank replay lines linesWithin textAt item recorded octetsOf happens stepIn stepFound step eventOf line groupLine endLine cutLine field stateAndFlags headings decimal digitsWithin
 theWholeCase = refl

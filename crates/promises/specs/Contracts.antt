@@ -1,0 +1,260 @@
+-- Any two answers that a contract allows are equal, and so are any two contents of what is lent to be written (document 01, "How tight the
+-- contracts are"). This is said of the contracts themselves: `f.Learnt κs a x s` is what the contract of the function f says of its answer x and of
+-- its arguments at exit s, where a was passed (κs: the lifetimes of what is lent). One statement a crate.
+-- Assumes nothing.
+use mathlib.Core.Path.{_≡_, sym, _∙_}
+use mathlib.Core.List.{List}
+use Prim.Native.Nat.{ℕ}
+use denote.Ref.{now}
+use Rattle.circuit.proofs.both.Reads as both
+use Rattle.circuit.proofs.either.Reads as either
+use Rattle.circuit.proofs.bad_group.Reads as badGroup
+use Rattle.circuit.proofs.controls.Reads as controls
+use Rattle.circuit.proofs.valid.Reads as valid
+use Rattle.codes.proofs.heading.Reads as heading
+use Rattle.codes.proofs.first_heading.Reads as firstHeading
+use Rattle.codes.proofs.second_heading.Reads as secondHeading
+use Rattle.codes.proofs.failure_of.Reads as failureOf
+use Rattle.codes.proofs.signal_of.Reads as signalOf
+use Rattle.codes.proofs.event_of.Reads as eventOf
+use Rattle.words.proofs.octet.Reads as octet
+use Rattle.words.proofs.number.Reads as number
+use Rattle.words.proofs.word.Reads as word
+use Rattle.words.proofs.put_octet.Reads as putOctet
+use Rattle.words.proofs.put_word.Reads as putWord
+use Rattle.layout.proofs.table_octets.Reads as tableOctets
+use Rattle.layout.proofs.records.Reads as records
+use Rattle.layout.proofs.counter_in.Reads as counterIn
+use Rattle.layout.proofs.state_at.Reads as stateAt
+use Rattle.layout.proofs.flags_at.Reads as flagsAt
+use Rattle.layout.proofs.stored_at.Reads as storedAt
+use Rattle.layout.proofs.flags_of.Reads as flagsOf
+use Rattle.layout.proofs.record_of.Reads as recordOf
+use Rattle.layout.proofs.allowed.Reads as allowed
+use Rattle.layout.proofs.put.Reads as put
+use Rattle.layout.proofs.put_counter.Reads as putCounter
+use Rattle.layout.proofs.put_rank.Reads as putRank
+use Rattle.rows.proofs.refused.Reads as refused
+use Rattle.rows.proofs.rows1.Reads as rows1
+use Rattle.rows.proofs.rows2.Reads as rows2
+use Rattle.rows.proofs.rows3.Reads as rows3
+use Rattle.rows.proofs.rows4.Reads as rows4
+use Rattle.rows.proofs.rows5.Reads as rows5
+use Rattle.rows.proofs.rows6.Reads as rows6
+use Rattle.signals.proofs.on_signal.Reads as onSignal
+use Rattle.commands.proofs.on_command.Reads as onCommand
+use Rattle.commands.proofs.on_timer.Reads as onTimer
+use Rattle.step.proofs.step.Reads as step
+use Rattle.step.proofs.step_found.Reads as stepFound
+use Rattle.group.proofs.step.Reads as groupStep
+use Rattle.select.proofs.select.Reads as select
+use Rattle.formats.proofs.fixed_length.Reads as fixedLength
+use Rattle.formats.proofs.bad_codes.Reads as badCodes
+use Rattle.reader.proofs.read_fields.Reads as readFields
+use Rattle.reader.proofs.read.Reads as read
+use Rattle.writer.proofs.write.Reads as write
+use Rattle.link.proofs.read_into.Reads as readInto
+use Rattle.link.proofs.write_from.Reads as writeFrom
+use Rattle.tup.proofs.tup_step.Reads as tupStep
+use Rattle.tup.proofs.tup_select.Reads as tupSelect
+use Rattle.tup.proofs.tup_read.Reads as tupRead
+use Rattle.tup.proofs.tup_write.Reads as tupWrite
+use Rattle.text.proofs.event_line.Reads as eventLine
+use Rattle.text.proofs.group_line.Reads as groupLine
+use Rattle.text.proofs.end_line.Reads as endLine
+use Rattle.text.proofs.cut_line.Reads as cutLine
+use Rattle.text.proofs.bad_group_line.Reads as badGroupLine
+
+-- the answer is determined
+abbrev pub Once : {K : Type 0} {A X E : K → Type 0} → ((κs : K) → A κs → X κs → E κs → Type 0) → Type 0
+Once {K} {A} {X} {E} C = (κs : K) (a : A κs) (x y : X κs) (s t : E κs) → C κs a x s → C κs a y t → x ≡ y
+
+-- and so is what a lent slice holds after it
+abbrev pub Leaves : {K : Type 0} {A X E : K → Type 0} → (lent : (κs : K) → E κs → List ℕ) → ((κs : K) → A κs → X κs → E κs → Type 0) → Type 0
+Leaves {K} {A} {X} {E} lent C = (κs : K) (a : A κs) (x y : X κs) (s t : E κs) → C κs a x s → C κs a y t → lent κs s ≡ lent κs t
+
+-- two that are equal to the definition
+once : {A : Type 0} {definition a b : A} → a ≡ definition → b ≡ definition → a ≡ b
+once p q = p ∙ sym q
+
+pub ofCircuit :
+    Once both.Learnt
+    × Once either.Learnt
+    × Once badGroup.Learnt
+    × Once controls.Learnt
+    × Once valid.Learnt
+ofCircuit = (
+  λ κs a x y s t. once,
+  λ κs a x y s t. once,
+  λ κs a x y s t. once,
+  λ κs a x y s t. once,
+  λ κs a x y s t. once,
+)
+
+pub ofCodes :
+    Once heading.Learnt
+    × Once firstHeading.Learnt
+    × Once secondHeading.Learnt
+    × Once failureOf.Learnt
+    × Once signalOf.Learnt
+    × Once eventOf.Learnt
+ofCodes = (
+  λ κs a x y s t. once,
+  λ κs a x y s t. once,
+  λ κs a x y s t. once,
+  λ κs a x y s t. once,
+  λ κs a x y s t. once,
+  λ κs a x y s t. once,
+)
+
+pub ofWords :
+    Once octet.Learnt
+    × Once number.Learnt
+    × Once word.Learnt
+    × Leaves (λ κs s. now (s .0)) putOctet.Learnt
+    × Leaves (λ κs s. now (s .0)) putWord.Learnt
+ofWords = (
+  λ κs a x y s t. once,
+  λ κs a x y s t. once,
+  λ κs a x y s t. once,
+  λ κs a x y s t. once,
+  λ κs a x y s t. once,
+)
+
+pub ofLayout :
+    Once tableOctets.Learnt
+    × Once records.Learnt
+    × Once counterIn.Learnt
+    × Once stateAt.Learnt
+    × Once flagsAt.Learnt
+    × Once storedAt.Learnt
+    × Once flagsOf.Learnt
+    × Once recordOf.Learnt
+    × Once allowed.Learnt
+    × Leaves (λ κs s. now (s .0)) put.Learnt
+    × Leaves (λ κs s. now (s .0)) putCounter.Learnt
+    × Leaves (λ κs s. now (s .0)) putRank.Learnt
+ofLayout = (
+  λ κs a x y s t h k. once (h .0) (k .0),
+  λ κs a x y s t. once,
+  λ κs a x y s t. once,
+  λ κs a x y s t. once,
+  λ κs a x y s t. once,
+  λ κs a x y s t. once,
+  λ κs a x y s t. once,
+  λ κs a x y s t. once,
+  λ κs a x y s t. once,
+  λ κs a x y s t. once,
+  λ κs a x y s t. once,
+  λ κs a x y s t. once,
+)
+
+pub ofRows :
+    Once refused.Learnt
+    × Once rows1.Learnt
+    × Once rows2.Learnt
+    × Once rows3.Learnt
+    × Once rows4.Learnt
+    × Once rows5.Learnt
+    × Once rows6.Learnt
+ofRows = (
+  λ κs a x y s t. once,
+  λ κs a x y s t. once,
+  λ κs a x y s t. once,
+  λ κs a x y s t. once,
+  λ κs a x y s t. once,
+  λ κs a x y s t. once,
+  λ κs a x y s t. once,
+)
+
+pub ofSignals : Once onSignal.Learnt
+ofSignals κs a x y s t = once
+
+pub ofCommands :
+    Once onCommand.Learnt
+    × Once onTimer.Learnt
+ofCommands = (
+  λ κs a x y s t. once,
+  λ κs a x y s t. once,
+)
+
+pub ofStep :
+    Once step.Learnt
+    × Once stepFound.Learnt
+ofStep = (
+  λ κs a x y s t. once,
+  λ κs a x y s t. once,
+)
+
+-- the table
+pub ofGroup : Once groupStep.Learnt × Leaves (λ κs s. now (s .1 .1 .0)) groupStep.Learnt
+ofGroup = (λ κs a x y s t h k. once (h .0) (k .0), λ κs a x y s t h k. once (h .1) (k .1))
+
+pub ofSelect : Once select.Learnt
+ofSelect κs a x y s t = once
+
+pub ofFormats : Once fixedLength.Learnt × Once badCodes.Learnt
+ofFormats = (λ κs a x y s t. once, λ κs a x y s t. once)
+
+pub ofReader : Once readFields.Learnt × Once read.Learnt
+ofReader = (λ κs a x y s t. once, λ κs a x y s t. once)
+
+-- the buffer
+pub ofWriter : Once write.Learnt × Leaves (λ κs s. now (s .1 .1 .1 .1 .1 .1 .1 .1 .1 .0)) write.Learnt
+ofWriter = (λ κs a x y s t h k. once (h .0) (k .0), λ κs a x y s t h k. once (h .1) (k .1))
+
+pub ofLink :
+    Once readInto.Learnt
+    × Leaves (λ κs s. now (s .1 .1 .1 .1 .0)) readInto.Learnt
+    × Once writeFrom.Learnt
+    × Leaves (λ κs s. now (s .1 .1 .1 .1 .1 .1 .1 .1 .1 .0)) writeFrom.Learnt
+ofLink = (
+  λ κs a x y s t h k. once (h .0) (k .0),
+  λ κs a x y s t h k. once (h .1) (k .1),
+  λ κs a x y s t h k. once (h .0) (k .0),
+  λ κs a x y s t h k. once (h .1) (k .1),
+)
+
+-- the table of an event, the buffers of a message
+pub ofTup :
+    Once tupStep.Learnt
+    × Leaves (λ κs s. now (s .1 .1 .0)) tupStep.Learnt
+    × Once tupSelect.Learnt
+    × Once tupRead.Learnt
+    × Leaves (λ κs s. now (s .1 .1 .1 .1 .0)) tupRead.Learnt
+    × Once tupWrite.Learnt
+    × Leaves (λ κs s. now (s .1 .1 .1 .1 .1 .1 .1 .1 .1 .0)) tupWrite.Learnt
+ofTup = (
+  λ κs a x y s t h k. once (h .0) (k .0),
+  λ κs a x y s t h k. once (h .1 .1) (k .1 .1),
+  λ κs a x y s t h k. once (h .0) (k .0),
+  λ κs a x y s t h k. once (h .0) (k .0),
+  λ κs a x y s t h k. once (h .1) (k .1),
+  λ κs a x y s t h k. once (h .0) (k .0),
+  λ κs a x y s t h k. once (h .1) (k .1),
+)
+
+-- a line's length, and the room
+pub ofText :
+    Once eventLine.Learnt
+    × Leaves (λ κs s. now (s .0)) eventLine.Learnt
+    × Once groupLine.Learnt
+    × Leaves (λ κs s. now (s .0)) groupLine.Learnt
+    × Once endLine.Learnt
+    × Leaves (λ κs s. now (s .0)) endLine.Learnt
+    × Once cutLine.Learnt
+    × Leaves (λ κs s. now (s .0)) cutLine.Learnt
+    × Once badGroupLine.Learnt
+    × Leaves (λ κs s. now (s .0)) badGroupLine.Learnt
+ofText = (
+  λ κs a x y s t h k. once (h .count) (k .count),
+  λ κs a x y s t h k. once (h .room) (k .room),
+  λ κs a x y s t h k. once (h .count) (k .count),
+  λ κs a x y s t h k. once (h .room) (k .room),
+  λ κs a x y s t h k. once (h .count) (k .count),
+  λ κs a x y s t h k. once (h .room) (k .room),
+  λ κs a x y s t h k. once (h .count) (k .count),
+  λ κs a x y s t h k. once (h .room) (k .room),
+  λ κs a x y s t h k. once (h .count) (k .count),
+  λ κs a x y s t h k. once (h .room) (k .room),
+)
