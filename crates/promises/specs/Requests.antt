@@ -1,0 +1,148 @@
+-- The requests of document 02 that have landed: T-01, "Remember when a circuit was freed", and T-02, "Choose the circuit for us".
+-- Assumes nothing.
+use mathlib.Core.Path.{_≡_}
+use mathlib.Core.Bool.{Bool, true, false, not, cond, _&&_, _||_}
+use mathlib.Core.List.{List, [], _∷_}
+use mathlib.Core.Logic.{_↔_}
+use Prim.Native.Nat.{ℕ, suc, _+_, _<_, _≤_, _^_}
+use lib.Dec.{T, eqb, leb}
+use lib.ListN.{length}
+use Rattle.circuit.specs.declared.Record.{Record}
+use Rattle.circuit.specs.declared.Signal.{Signal}
+use Rattle.circuit.specs.declared.Signal.the-variants.{Clf, Rlg, Rsc}
+use Rattle.circuit.specs.declared.Command.the-variants.{Seize}
+use Rattle.circuit.specs.declared.Event.{Event}
+use Rattle.circuit.specs.declared.Event.the-variants.{Arrives, Ordered}
+use Rattle.circuit.specs.Records.{valid}
+use Rattle.circuit.specs.Groups.{badGroup, controls}
+use Rattle.circuit.specs.Refusals.{Rule, refuse, firstOf, Given}
+use Rattle.circuit.proofs.Refusals.{exactly}
+use Rattle.codes.specs.declared.Found.{Found}
+use Rattle.codes.specs.declared.Found.the-variants.{Is}
+use Rattle.words.specs.Words.{largest}
+use Rattle.step.specs.Step.{step}
+use Rattle.step.specs.Frees.{freed, frees}
+use Rattle.step.proofs.Always.{freesListed}
+use Rattle.layout.specs.Layout.{recordsIn, counterIn, stateAt, rankAt, allowedAt, idle}
+use Rattle.group.specs.Table.{stepIn}
+use Rattle.group.specs.Runs.{Follows, events}
+use Rattle.group.proofs.Laws.{keepsLength}
+use Rattle.group.proofs.Ranks as ranks
+use Rattle.select.specs.First.{some}
+use Rattle.select.specs.Selection.{qualifies, bad, ours, stops, selectRules, selectIn}
+use Rattle.select.proofs.Laws as choices
+
+-- T-01. REMEMBER WHEN A CIRCUIT WAS FREED
+
+-- the circuit went from another state to idle
+abbrev idled : (before after : List ℕ) → (cic : ℕ) → Bool
+idled before after cic = not (eqb (stateAt before cic) 0) && eqb (stateAt after cic) 0
+
+-- "whenever an event takes a record from another state to idle the counter goes up by one and the record takes it"; no other event changes the
+-- counter or a rank. Of every table and every event.
+module _ (own far : ℕ) (table : List ℕ) (cic : ℕ) (event : Found) where
+  abbrev after : List ℕ
+  after = stepIn own far table cic event .table
+
+  pub counterCounts : counterIn after ≡ cond (idled table after cic) (counterIn table + 1) (counterIn table)
+  counterCounts = ranks.counted own far table cic event .counter
+
+  pub rankIsTaken : (i : ℕ) → rankAt after i ≡ cond (idled table after cic && eqb i cic) (counterIn table + 1) (rankAt table i)
+  rankIsTaken = ranks.counted own far table cic event .ranks
+
+-- exactly these take a record that is allowed from another state to idle: CLF in 1 and 5 not controlling and in 6 to 12, RLG in 5 and 12, RSC in
+-- 6 to 11; no other signal, no command, no timer
+pub theseFree : (c : Bool) (r : Record) (e : Event) → T (valid r) → freed (r .state) (step c r e) ≡ frees c (r .state) e
+theseFree = freesListed
+
+pub freeingSignals : (c : Bool) (s : ℕ)
+    → (frees c s (Arrives Clf) ∷ frees c s (Arrives Rlg) ∷ frees c s (Arrives Rsc) ∷ [])
+    ≡ ((not c && (eqb s 1 || eqb s 5)) || (leb 6 s && leb s 12)) ∷ (eqb s 5 || eqb s 12) ∷ (leb 6 s && leb s 11) ∷ []
+freeingSignals c s = refl
+
+-- "Both start at 0; the rank is a 64-bit number": of every table that events lead to from zeros, ranks are at most the counter, and of two circuits
+-- that have been freed the ranks differ
+pub fromZeros : {own far : ℕ} {table : List ℕ} (octets : ℕ) → Follows own far (idle octets) table
+    → (length table ≡ length (idle octets))
+    × ((i : ℕ) → i < recordsIn (length table) → rankAt table i ≤ counterIn table)
+    × ((i j : ℕ) → i < recordsIn (length table) → j < recordsIn (length table) → (i ≡ j → ⊥) → counterIn (idle octets) < rankAt table i → rankAt table i ≡ rankAt table j → ⊥)
+fromZeros octets f = let k = ranks.fromZeros octets f in (k .records, k .ranked, k .apart)
+
+-- from any table whose ranks are at most its counter: no rank falls
+pub ranksRise : {own far : ℕ} {first last : List ℕ} → ((i : ℕ) → i < recordsIn (length first) → rankAt first i ≤ counterIn first)
+    → Follows own far first last → (i : ℕ) → i < recordsIn (length first) → rankAt first i ≤ rankAt last i
+ranksRise low f = ranks.kept low f .rises
+
+-- a circuit that is freed later has the higher rank: of two events with any others between them, the first frees i and the second j
+pub laterIsHigher : (own far : ℕ) (first second : List ℕ) (i j : ℕ) (e f : Found)
+    → idled first (stepIn own far first i e .table) i ≡ true
+    → Follows own far (stepIn own far first i e .table) second
+    → idled second (stepIn own far second j f .table) j ≡ true
+    → rankAt (stepIn own far first i e .table) i < rankAt (stepIn own far second j f .table) j
+laterIsHigher = ranks.later
+
+-- "13, the counter is at its largest value", 2^64 - 1; a group that starts idle answers it at none of its first 2^64 - 1 events
+pub only13AtLargest : (own far : ℕ) (table : List ℕ) (cic : ℕ) (event : Found) → stepIn own far table cic event .answer .refusal ≡ 13 → largest ≤ counterIn table
+only13AtLargest = ranks.spentAt
+
+pub largestIs : largest + 1 ≡ 2 ^ 64
+largestIs = refl
+
+pub no13AtFirst : {own far : ℕ} {table : List ℕ} (octets : ℕ) (f : Follows own far (idle octets) table) → events f < largest
+    → (cic : ℕ) (event : Found) → stepIn own far table cic event .answer .refusal ≡ 13 → ⊥
+no13AtFirst = ranks.never13
+
+-- T-02. CHOOSE THE CIRCUIT FOR US
+
+module _ (own far : ℕ) (table : List ℕ) where
+  abbrev n : ℕ
+  n = recordsIn (length table)
+
+  abbrev chosen : ℕ
+  chosen = selectIn own far table .cic .0
+
+  -- the chosen circuit is one of the table's, idle and without far block
+  pub chosenQualifies : selectIn own far table .refusal ≡ 0 → (chosen < n) × T (qualifies table chosen)
+  chosenQualifies = choices.chosenQualifies own far table
+
+  -- "first, of the idle circuits without far block that we control, the one released longest ago": where one of ours qualifies, the chosen one is
+  -- ours, and none of ours was released before it; "equal ranks go to the lower CIC"
+  pub oursFirst : selectIn own far table .refusal ≡ 0 → (j : ℕ) → j < n → T (qualifies table j && controls own far j)
+      → T (controls own far chosen) × (rankAt table chosen ≤ rankAt table j) × (rankAt table chosen ≡ rankAt table j → chosen ≤ j)
+  oursFirst r j h t = let k = choices.ofOurs own far table r j h t in (k .0, k .1 .rank, k .1 .number)
+
+  -- "if there are none, of those we do not control, the one released latest": one of theirs is chosen only where none of ours qualifies, and none
+  -- that qualifies was released after it; equal ranks again go to the lower CIC
+  pub elseTheirs : selectIn own far table .refusal ≡ 0 → (T (controls own far chosen) → ⊥) → (j : ℕ) → j < n → T (qualifies table j)
+      → (T (controls own far j) → ⊥) × (rankAt table j ≤ rankAt table chosen) × (rankAt table chosen ≡ rankAt table j → chosen ≤ j)
+  elseTheirs r other j h t = let k = choices.ofTheirs own far table r other j h t in (k .0, k .1 .rank, k .1 .number)
+
+  -- "how many records were looked at. That is the whole table, unless a qualifying one of our own with rank 0 is found, where it stops: the count is
+  -- that circuit's number plus one"
+  pub lookedAt : selectIn own far table .refusal ≡ 0
+      → selectIn own far table .looked ≡ cond (some n (λ i. (qualifies table i && controls own far i) && eqb (rankAt table i) 0)) (chosen + 1) n
+  lookedAt = choices.counts own far table
+
+  -- "Refusals: 1 and 12 (any bad record, sought first and not counted), then 14, given exactly if no circuit qualifies"
+  pub choiceRefused : selectIn own far table .refusal
+      ≡ firstOf (refuse 1 (badGroup own far n) ∷ refuse 12 (some n (λ i. not (allowedAt table i))) ∷ refuse 14 (not (some n (qualifies table))) ∷ [])
+  choiceRefused = choices.refusals own far table
+
+  -- "each reports circuit 0 and count 0"
+  pub refusedReportsNone : (selectIn own far table .refusal ≡ 0 → ⊥) → (chosen ≡ 0) × (selectIn own far table .looked ≡ 0)
+  refusedReportsNone = choices.reportsNone own far table
+
+  -- a circuit number and a count of a group
+  pub choiceIsSmall : (chosen < 4096) × (selectIn own far table .looked ≤ 4096)
+  choiceIsSmall = choices.small own far table
+
+  -- seizing the chosen circuit at once is accepted
+  pub chosenCanBeSeized : selectIn own far table .refusal ≡ 0 → stepIn own far table chosen (Is (Ordered Seize)) .answer .refusal ≡ 0
+  chosenCanBeSeized = choices.seizable own far table
+
+-- two ends that choose at once, whatever their tables: while each has a circuit of its own that qualifies, they do not choose the same one
+pub neverTheSame : (own far : ℕ) (here there : List ℕ) → (own ≡ far → ⊥) → selectIn own far here .refusal ≡ 0 → selectIn far own there .refusal ≡ 0
+    → (i : ℕ) → i < recordsIn (length here) → T (qualifies here i && controls own far i)
+    → (j : ℕ) → j < recordsIn (length there) → T (qualifies there j && controls far own j)
+    → selectIn own far here .cic .0 ≡ selectIn far own there .cic .0 → ⊥
+neverTheSame = choices.neverMeet
