@@ -20,16 +20,10 @@ use Rattle.reader.specs.Reading.{elsewhere, unfit, bodyRules, readRules, noCode
 use Rattle.writer.specs.Writing.{Said, said, tooLarge, badAddress, labelOf, plainOctets, acmOctets, iamOctets, shortOctets, octetsOf, writeRules, putting, writing}
 use Rattle.reader.proofs.Signals.{length-halves}
 use Rattle.writer.proofs.Pairs.{length-pairs}
-use Rattle.inverse.specs.Numbers.{Octets, octetsBack, withoutFiller, pairsBack, halvesFit, laterOctets}
-use Rattle.inverse.specs.Groups.{Clear, clear, turned, recordsFit}
+use Rattle.inverse.specs.Octets.{Octets, withoutFiller, cleared}
+use Rattle.inverse.proofs.Numbers.{octetsBack, pairsBack, halvesFit, laterOctets}
+use Rattle.inverse.proofs.Groups.{Clear, clear, turned, recordsFit}
 use Rattle.inverse.specs.Said.{saidOf}
-
--- the octets of a message with spare bits and filler cleared: in an ACM's octet and in an IAM's category the top two bits, in an IAM's ninth
--- octet the bit worth 8 (2048 of the two octets), and the filler after an odd count of address signals
-abbrev pub cleared : List ℕ → List ℕ
-cleared xs =
-    cond (isIam (headingIn xs)) (take 6 xs ++ (getD xs 6 0 % 64 ∷ getD xs 7 0 ∷ (getD xs 8 0 / 16 * 16 + getD xs 8 0 % 8) ∷ withoutFiller (countIn xs) (drop 9 xs)))
-    (cond (isAcm (headingIn xs)) (take 6 xs ++ (getD xs 6 0 % 64 ∷ [])) (take 6 xs))
 
 firstSix : (xs : List ℕ) → 6 ≤ length xs → take 6 xs ≡ getD xs 0 0 ∷ getD xs 1 0 ∷ getD xs 2 0 ∷ getD xs 3 0 ∷ getD xs 4 0 ∷ getD xs 5 0 ∷ []
 firstSix [] h = absurd (omega arith)

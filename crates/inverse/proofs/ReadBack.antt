@@ -19,8 +19,8 @@ use Rattle.writer.specs.Writing.{Said, acmLimit, tooLarge, badAddress, labelOf,
 use Rattle.writer.proofs.Pairs.{length-pairs, at-most}
 use Rattle.writer.proofs.Tests.{fitting, fitting-iam, few}
 use Rattle.reader.proofs.Bodies.{ours, taken, iam-taken}
-use Rattle.inverse.specs.Numbers.{numberBack, codesBack}
-use Rattle.inverse.specs.Groups.{Clear, clear, inRange}
+use Rattle.inverse.proofs.Numbers.{numberBack, codesBack}
+use Rattle.inverse.proofs.Groups.{Clear, clear, inRange}
 use Rattle.inverse.specs.Said.{fieldsSaid}
 
 -- the three fields of a label
