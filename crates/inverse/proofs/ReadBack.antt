@@ -15,7 +15,8 @@ use Rattle.formats.specs.Octets.{pairs, halves, badCodes, aboveFifteen}
 use Rattle.words.specs.Octets.{lowFirst, numberOf}
 use Rattle.formats.specs.Messages.{listed, isIam, isAcm, fixedLength, half}
 use Rattle.reader.specs.Places.{labelIn, cicIn, headingIn, sixBitsIn, wordIn, indicatorsIn, countIn, addressIn}
-use Rattle.reader.specs.Reading.{plainFields, iamFields, bodyOf, fieldsOf}
+use Rattle.reader.specs.Reading.{plainFields, iamFields, fieldsOf}
+use Rattle.reader.specs.Way.{bodyOf}
 use Rattle.writer.specs.Writing.{Said, acmLimit, tooLarge, badAddress, labelOf, plainOctets, acmOctets, iamOctets, octetsOf, writeRules}
 use Rattle.writer.proofs.Pairs.{length-pairs, at-most}
 use Rattle.writer.proofs.Tests.{fitting, fitting-iam, few}

@@ -70,9 +70,6 @@ abbrev pub unless : ℕ → Fields → Fields
 unless zero fields = fields
 unless (suc n) fields = refused (suc n)
 
-unfoldable pub bodyOf : ℕ → ℕ → List ℕ → Fields
-bodyOf records heading xs = unless (firstOf (bodyRules records heading xs)) (fieldsIn heading xs)
-
 unfoldable pub fieldsOf : ℕ → ℕ → ℕ → List ℕ → Fields
 fieldsOf own far records xs = unless (firstOf (readRules own far records xs)) (fieldsIn (headingIn xs) xs)
 

@@ -12,7 +12,8 @@ ghost use Rattle.formats.specs.Octets.{halves};
 ghost use Rattle.words.specs.Octets.{numberOf, over};
 ghost use Rattle.formats.specs.Messages.{half};
 ghost use Rattle.reader.specs.Places.{cicIn, headingIn};
-ghost use Rattle.reader.specs.Reading.{noCodes, refused, plainFields, bodyOf, fieldsOf, reading};
+ghost use Rattle.reader.specs.Reading.{noCodes, refused, plainFields, fieldsOf, reading};
+ghost use Rattle.reader.specs.Way.{bodyOf};
 
 // A message by numbers, or the refusal of one with every other field 0: circuit, heading, ACM's octet, IAM's category, indicators and count,
 // and its address signals. A field that the heading does not have is 0, and so is each code from the count on.

@@ -98,12 +98,3 @@ putting (suc n) xs buffer = record { answer = unwritten (suc n); buffer = buffer
 
 unfoldable pub writing : ℕ → ℕ → ℕ → Said → List ℕ → Outcome
 writing own far records m buffer = putting (firstOf (writeRules own far records m (length buffer))) (octetsOf own far m) buffer
-
--- the last two tests, of an IAM, and the last one, of any other message
-unfoldable pub iamWriting : ℕ → ℕ → ℕ → List ℕ → List ℕ → Outcome
-iamWriting label category indicators address buffer =
-    putting (firstOf (refuse 10 (badAddress address) ∷ refuse 11 (ltb (length buffer) (length (iamOctets label category indicators address))) ∷ []))
-    (iamOctets label category indicators address) buffer
-
-unfoldable pub shortWriting : ℕ → ℕ → ℕ → List ℕ → Outcome
-shortWriting label heading acm buffer = putting (firstOf (refuse 11 (ltb (length buffer) (length (shortOctets label heading acm))) ∷ [])) (shortOctets label heading acm) buffer

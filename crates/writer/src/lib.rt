@@ -9,7 +9,8 @@ ghost use lib.Seq.{paste};
 ghost use Rattle.formats.specs.Octets.{pairs, aboveFifteen};
 ghost use Rattle.words.specs.Octets.{over};
 ghost use Rattle.formats.specs.Messages.{fixedLength, half, listed, isIam};
-ghost use Rattle.writer.specs.Writing.{said, tooLarge, badAddress, plainOctets, acmOctets, iamHead, labelOf, acmLimit, unwritten, iamWriting, shortWriting, writing};
+ghost use Rattle.writer.specs.Writing.{said, tooLarge, badAddress, plainOctets, acmOctets, iamHead, labelOf, acmLimit, unwritten, writing};
+ghost use Rattle.writer.specs.Way.{iamWriting, shortWriting};
 
 // The refusal's number, 0 where there is none, and how many octets the message has, 0 where it is refused.
 pub struct Written {

@@ -3,7 +3,7 @@
 use native.Mathlib.Omega.{arith}
 use Rattle.formats.proofs.Lengths.{acm-length}
 use Rattle.reader.proofs.Bodies.{looked-none, looked-long, looked-beyond, looked-acm, looked-plain}
-use Rattle.reader.specs.Reading.{bodyOf}
+use Rattle.reader.specs.Way.{bodyOf}
 use Prim.Native.Nat.{ℕ}
 use mathlib.Core.Path.{sym, _∙_, ap}
 use borrow.Author.Needs.{needs}
