@@ -7,7 +7,7 @@ use mathlib.Core.Logic.{_↔_, inl, inr, ⊎-elim}
 use Prim.Native.Nat.{ℕ, zero, suc}
 use native.Mathlib.Omega.{arith}
 use lib.Dec.{T}
-use Rattle.circuit.specs.Refusals.{refuse, Rule, firstOf, Given}
+use Rattle.circuit.specs.Refusals.{refuse, Rule, firstOf, Given, Clear}
 
 -- A refusal's number is the answer exactly when a test with this number holds and none before it does.
 pub exactly : (rules : List Rule) (n : ℕ) → (firstOf rules ≡ suc n) ↔ Given (suc n) rules
@@ -15,11 +15,6 @@ unfolding Given
 exactly [] n = (λ e. omega arith, λ g. absurd g)
 exactly (refuse k true ∷ rules) n = (λ e. inl (refl, e), λ g. ⊎-elim (λ h. h .1) (λ h. absurd (subst T (h .0) tt)) g)
 exactly (refuse k false ∷ rules) n = (λ e. inr (refl, exactly rules n .0 e), λ g. ⊎-elim (λ h. absurd (subst T (sym (h .0)) tt)) (λ h. exactly rules n .1 (h .1)) g)
-
--- no test holds
-abbrev pub Clear : List Rule → Type 0
-Clear [] = Unit {0}
-Clear (refuse n holds ∷ rules) = (holds ≡ false) × Clear rules
 
 -- no rule has the number 0, which stands for none
 abbrev pub numbered : List Rule → Bool

@@ -17,3 +17,8 @@ firstOf (refuse n holds ∷ rules) = cond holds n (firstOf rules)
 unfoldable pub Given : ℕ → List Rule → Type 0
 Given n [] = ⊥
 Given n (refuse k holds ∷ rules) = ((holds ≡ true) × (k ≡ n)) ⊎ ((holds ≡ false) × Given n rules)
+
+-- none is given: no test holds
+abbrev pub Clear : List Rule → Type 0
+Clear [] = Unit {0}
+Clear (refuse n holds ∷ rules) = (holds ≡ false) × Clear rules

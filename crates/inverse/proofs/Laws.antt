@@ -3,7 +3,7 @@
 use mathlib.Core.Path.{_≡_, refl, sym, ap, _∙_}
 use mathlib.Core.Bool.{Bool, true, false, cond}
 use mathlib.Core.List.{List}
-use Prim.Native.Nat.{ℕ, zero, suc, _+_, _<_, _≤_}
+use Prim.Native.Nat.{ℕ, _+_, _<_, _≤_}
 use native.Mathlib.Omega.{arith}
 use lib.ListN.{length, take, drop}
 use lib.Seq.{take-append-seam}
@@ -19,19 +19,14 @@ use Rattle.link.specs.Entries.{readInto, writeFrom}
 use Rattle.writer.proofs.Pairs.{length-pairs}
 use Rattle.inverse.specs.Octets.{Octets, cleared}
 use Rattle.inverse.specs.Said.{fieldsSaid, saidOf, lengthOf}
+use Rattle.inverse.proofs.Refusals.{writeRefusal}
 use Rattle.inverse.proofs.ReadBack.{octetsRead}
 use Rattle.inverse.proofs.Different.{sameMessage}
 use Rattle.inverse.proofs.WriteBack.{writtenAgain}
 
--- no refusal means that no test held
-refusalOf : (n : ℕ) (xs buffer : List ℕ) → putting n xs buffer .answer .refusal ≡ n
-refusalOf zero xs buffer = refl
-refusalOf (suc n) xs buffer = refl
-
 module _ (own far records : ℕ) (m : Said) (buffer : List ℕ) (ok : writing own far records m buffer .answer .refusal ≡ 0) where
   pub untested : firstOf (writeRules own far records m (length buffer)) ≡ 0
-  unfolding writing
-  untested = sym (refusalOf (firstOf (writeRules own far records m (length buffer))) (octetsOf own far m) buffer) ∙ ok
+  untested = sym (writeRefusal own far records m buffer) ∙ ok
 
   pub written : writing own far records m buffer ≡ putting 0 (octetsOf own far m) buffer
   unfolding writing

@@ -9,8 +9,8 @@ use borrow.Author.Tests.{ltb-false, eqb-true, eqb-false, eq-eqb, not-false}
 use lib.Dec.{T, eqb, ltb, lit≤}
 use lib.ListN.{length, take}
 use Rattle.circuit.specs.Groups.{badGroup}
-use Rattle.circuit.specs.Refusals.{firstOf}
-use Rattle.circuit.proofs.Refusals.{Clear, clear}
+use Rattle.circuit.specs.Refusals.{firstOf, Clear}
+use Rattle.circuit.proofs.Refusals.{clear}
 use Rattle.formats.specs.Octets.{pairs, halves, badCodes, aboveFifteen}
 use Rattle.words.specs.Octets.{lowFirst, numberOf}
 use Rattle.formats.specs.Messages.{listed, isIam, isAcm, fixedLength, half}

@@ -10,8 +10,8 @@ use lib.Dec.{T, eqb, ltb, lit<}
 use lib.ListN.{length, getD, take, drop, length-append, length-drop}
 use lib.Seq.{take-append-seam, length-take-le}
 use Rattle.reader.specs.declared.Fields.{Fields}
-use Rattle.circuit.specs.Refusals.{firstOf}
-use Rattle.circuit.proofs.Refusals.{Clear, clear, noneGiven}
+use Rattle.circuit.specs.Refusals.{firstOf, Clear}
+use Rattle.circuit.proofs.Refusals.{clear, noneGiven}
 use Rattle.formats.specs.Octets.{pairs, halves, badCodes, aboveFifteen}
 use Rattle.words.specs.Octets.{lowFirst, numberOf, over}
 use Rattle.formats.specs.Messages.{listed, isIam, isAcm, fixedLength, half}
@@ -23,6 +23,7 @@ use Rattle.writer.proofs.Pairs.{length-pairs}
 use Rattle.inverse.specs.Octets.{Octets, withoutFiller, cleared}
 use Rattle.inverse.proofs.Numbers.{octetsBack, pairsBack, halvesFit, laterOctets}
 use Rattle.inverse.proofs.Groups.{turned, recordsFit}
+use Rattle.inverse.proofs.Refusals.{readRefusal}
 use Rattle.inverse.specs.Said.{saidOf}
 
 firstSix : (xs : List ℕ) → 6 ≤ length xs → take 6 xs ≡ getD xs 0 0 ∷ getD xs 1 0 ∷ getD xs 2 0 ∷ getD xs 3 0 ∷ getD xs 4 0 ∷ getD xs 5 0 ∷ []
@@ -52,20 +53,8 @@ wordOctets low high count l h e =
 
 -- the nine tests of the reader, none of which holds
 module _ (own far records : ℕ) (xs : List ℕ) (octets : Octets xs) (ok : fieldsOf own far records xs .refusal ≡ 0) where
-  number : (n : ℕ) (f : Fields) → f .refusal ≡ 0 → unless n f .refusal ≡ 0 → n ≡ 0
-  number zero f e p = refl
-  number (suc n) f e p = p
-
-  told : fieldsIn (headingIn xs) xs .refusal ≡ 0
-  told = go (isIam (headingIn xs))
-    where
-      go : (b : Bool) → cond b (iamFields (cicIn xs) (sixBitsIn xs) (indicatorsIn xs) (addressIn xs)) (plainFields (cicIn xs) (headingIn xs) (cond (isAcm (headingIn xs)) (sixBitsIn xs) 0)) .refusal ≡ 0
-      go true = refl
-      go false = refl
-
   none : firstOf (readRules own far records xs) ≡ 0
-  unfolding fieldsOf
-  none = number (firstOf (readRules own far records xs)) (fieldsIn (headingIn xs) xs) told ok
+  none = sym (readRefusal own far records xs) ∙ ok
 
   pub accepted : fieldsOf own far records xs ≡ fieldsIn (headingIn xs) xs
   unfolding fieldsOf
@@ -214,7 +203,7 @@ module _ (own far records : ℕ) (xs : List ℕ) (octets : Octets xs) (ok : fiel
       byIam false e = ap (λ (b : Bool). length (cond b long (cond (isAcm (headingIn xs)) acm (take 6 xs)))) e ∙ byAcm e (isAcm (headingIn xs)) refl
 
   -- the writer takes it
-  circuitFits : cicIn xs ≤ 4095
+  pub circuitFits : cicIn xs ≤ 4095
   circuitFits = let a = at 0 (lit< tt) in let b = at 1 (lit< tt) in let c = at 2 (lit< tt) in let d = at 3 (lit< tt) in let e = at 4 (lit< tt) in omega arith
 
   abbrev again : Said

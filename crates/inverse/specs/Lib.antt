@@ -1,3 +1,4 @@
 pub mod Said
 pub mod Octets
+pub mod Host
 pub mod Cases
