@@ -143,6 +143,9 @@ module _ (own far records : ℕ) (xs : List ℕ) (octets : Octets xs) (ok : fiel
     counted : length (addressIn xs) ≡ countIn xs
     counted = let w = whole in length-take-le (countIn xs) (halves (drop 9 xs)) (omega (arith, length-halves (drop 9 xs), length-drop 9 xs))
 
+    pub atMostFifteen : length (addressIn xs) ≤ 15
+    atMostFifteen = let q = counted in let l = octets 7 (omega (arith, nine)) in let h = octets 8 (omega (arith, nine)) in omega arith
+
     addressAgain : take (length (addressIn xs)) (over (addressIn xs) noCodes) ≡ addressIn xs
     addressAgain = take-append-seam (addressIn xs) (drop (length (addressIn xs)) noCodes)
 
@@ -240,7 +243,7 @@ module _ (own far records : ℕ) (xs : List ℕ) (octets : Octets xs) (ok : fiel
         a = ap (λ (n : ℕ). eqb n 0) (counted i) ∙ subst (λ (b : Bool). (b && eqb (countIn xs) 0) ≡ false) i (bodies .1 .1 .0)
 
         b : ltb 15 (length (addressIn xs)) ≡ false
-        b = let q = counted i in let l = octets 7 (omega (arith, nine i)) in let h = octets 8 (omega (arith, nine i)) in le-ltb 15 (length (addressIn xs)) (omega arith)
+        b = le-ltb 15 (length (addressIn xs)) (atMostFifteen i)
 
         c : badCodes (addressIn xs) ≡ false
         c = subst (λ (b : Bool). (b && badCodes (addressIn xs)) ≡ false) i (bodies .1 .1 .1 .1 .0)

@@ -5,7 +5,7 @@ use mathlib.Core.Path.{_≡_}
 use mathlib.Core.List.{List, [], _∷_, _++_}
 use Prim.Native.Nat.{ℕ, _/_, _%_}
 use lib.Dec.{ltb}
-use lib.ListN.{getD, take, drop}
+use lib.ListN.{length, getD, take, drop}
 use Rattle.circuit.specs.Refusals.{refuse, Rule}
 use Rattle.words.specs.Octets.{numberOf}
 use Rattle.reader.specs.declared.Fields.{Fields}
@@ -30,3 +30,8 @@ pub record Holds (buffer : List ℕ) (f : Fields) : Type 0 where
 pub record Packs (answer : ℕ) (w : Written) : Type 0 where
   pub refusal : answer % 256 ≡ w .refusal
   pub length : answer / 256 ≡ w .length
+
+-- a buffer begins with a message's octets, and beyond them it is as it was before
+pub record Begins (octets before after : List ℕ) : Type 0 where
+  pub start : take (length octets) after ≡ octets
+  pub beyond : drop (length octets) after ≡ drop (length octets) before
