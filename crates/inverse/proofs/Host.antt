@@ -65,16 +65,16 @@ fromFilled own far count m buffer e =
 held : (f : Fields) (buffer : List ℕ) → f .circuit .0 < 256 ^ 2 → f .indicators < 256 ^ 2 → length (f .address) ≡ 15
     → Holds (over (fieldsOctets f) buffer) f × (drop 23 (over (fieldsOctets f) buffer) ≡ drop 23 buffer)
 held f buffer c i n = (
-    record {
-        circuit = numberBack 2 (f .circuit .0) c;
-        heading = refl;
-        acm = refl;
-        category = refl;
-        indicators = numberBack 2 (f .indicators) i;
-        count = refl;
-        address = take-at (f .address) (drop (length (fieldsOctets f)) buffer) 15 n
-    },
-    drop-at (fieldsOctets f) (drop (length (fieldsOctets f)) buffer) 23 whole ∙ ap (λ (k : ℕ). drop k buffer) whole,
+  record {
+    circuit = numberBack 2 (f .circuit .0) c;
+    heading = refl;
+    acm = refl;
+    category = refl;
+    indicators = numberBack 2 (f .indicators) i;
+    count = refl;
+    address = take-at (f .address) (drop (length (fieldsOctets f)) buffer) 15 n;
+  },
+  drop-at (fieldsOctets f) (drop (length (fieldsOctets f)) buffer) 23 whole ∙ ap (λ (k : ℕ). drop k buffer) whole,
 )
   where
     whole : length (fieldsOctets f) ≡ 23

@@ -255,10 +255,9 @@ module _ (own far records : ℕ) (xs : List ℕ) (octets : Octets xs) (ok : fiel
     takes m c l t a o =
         let k = circuitFits in
         let n : length (octetsOf far own m) ≡ length xs = ap length o ∙ length-cleared in
-        noneGiven (writeRules far own records m (length buffer))
-        (
-            turned own far records records (tests .0) (recordsFit own far records (tests .0)),
-            (le-ltb 4095 (m .cic) (omega arith), (ap not l, (t, (a, (le-ltb (length buffer) (length (octetsOf far own m)) (omega arith), tt))))),
+        noneGiven (writeRules far own records m (length buffer)) (
+          turned own far records records (tests .0) (recordsFit own far records (tests .0)),
+          (le-ltb 4095 (m .cic) (omega arith), (ap not l, (t, (a, (le-ltb (length buffer) (length (octetsOf far own m)) (omega arith), tt))))),
         )
 
     plainIs : isIam (headingIn xs) ≡ false → again ≡ said (cicIn xs) (headingIn xs) (cond (isAcm (headingIn xs)) (sixBitsIn xs) 0) 0 0 []
