@@ -13,7 +13,7 @@ use Rattle.reader.specs.declared.Reading.{Reading}
 use Rattle.circuit.specs.Refusals.{refuse, Rule, firstOf}
 use Rattle.formats.specs.Octets.{badCodes}
 use Rattle.words.specs.Octets.{over}
-use Rattle.formats.specs.Messages.{listed, isIam, isAcm, fixedLength, half}
+use Rattle.formats.specs.Messages.{listed, iamHeading, isIam, isAcm, fixedLength, half}
 use Rattle.reader.specs.Places.{dpcIn, opcIn, cicIn, headingIn, sixBitsIn, indicatorsIn, countIn, addressIn}
 
 -- DPC is not the own code or OPC not the far one
@@ -56,7 +56,7 @@ abbrev pub plainFields : ℕ → ℕ → ℕ → Fields
 plainFields circuit heading acm = record { refusal = 0; circuit = record { 0 = circuit }; heading = heading; acm = acm; category = 0; indicators = 0; count = 0; address = noCodes }
 
 abbrev pub iamFields : ℕ → ℕ → ℕ → List ℕ → Fields
-iamFields circuit category indicators address = record { refusal = 0; circuit = record { 0 = circuit }; heading = 0x11; acm = 0; category = category; indicators = indicators; count = length address; address = over address noCodes }
+iamFields circuit category indicators address = record { refusal = 0; circuit = record { 0 = circuit }; heading = iamHeading; acm = 0; category = category; indicators = indicators; count = length address; address = over address noCodes }
 
 -- what the octets say; a field that the heading does not have is 0, and so is a place of the address that is not used
 abbrev pub fieldsIn : ℕ → List ℕ → Fields

@@ -9,7 +9,7 @@ ghost use Prim.Native.Nat.{_+_, _/_, _%_, _≤_, _^_};
 ghost use lib.ListN.{length, drop, take};
 ghost use Rattle.formats.specs.Octets.{halves};
 ghost use Rattle.words.specs.Octets.{over};
-ghost use Rattle.formats.specs.Messages.{half};
+ghost use Rattle.formats.specs.Messages.{half, iamHeading};
 ghost use Rattle.reader.specs.Places.{cicIn, headingIn};
 ghost use Rattle.reader.specs.Reading.{noCodes, refused, plainFields, fieldsOf, reading};
 ghost use Rattle.reader.specs.Way.{bodyOf};
@@ -107,7 +107,7 @@ fn plain_fields(circuit: Cic, heading: u8, acm: u8) -> Fields
 // An IAM whose label is in order.
 fn read_iam(records: usize, circuit: Cic, octets: &[u8]) -> Fields
     requires { ⌜ circuit .0 ≡ cicIn (now octets) ⌝ }
-    ensures { λ r. ⌜ r ≡ bodyOf records 0x11 (now (octets .entry)) ⌝ }
+    ensures { λ r. ⌜ r ≡ bodyOf records iamHeading (now (octets .entry)) ⌝ }
 {
     if octets.len() < formats::IAM_OCTETS {
         return refused(7);
