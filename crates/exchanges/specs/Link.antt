@@ -17,7 +17,7 @@ use Rattle.reader.specs.declared.Reading.{Reading}
 use Rattle.reader.specs.Reading.{fieldsOf, messageOf, reading}
 use Rattle.writer.specs.Writing.{Said, said, writing}
 use Rattle.inverse.specs.Said.{fieldsSaid}
-use Rattle.inverse.specs.Laws.{readingBack}
+use Rattle.inverse.proofs.Laws.{readingBack}
 
 -- ACM's octet; no other signal has one
 abbrev pub octetOf : Signal → ℕ

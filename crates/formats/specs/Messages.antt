@@ -15,11 +15,18 @@ isKnown Unknown = false
 abbrev pub listed : ℕ → Bool
 listed heading = isKnown (signalOf heading 0)
 
+-- the two that have fields of their own
+abbrev pub iamHeading : ℕ
+iamHeading = 0x11
+
+abbrev pub acmHeading : ℕ
+acmHeading = 0x14
+
 abbrev pub isIam : ℕ → Bool
-isIam heading = eqb heading 0x11
+isIam heading = eqb heading iamHeading
 
 abbrev pub isAcm : ℕ → Bool
-isAcm heading = eqb heading 0x14
+isAcm heading = eqb heading acmHeading
 
 -- the octets of a message before its address signals: label and heading; ACM has one octet more, IAM three
 abbrev pub fixedLength : ℕ → ℕ

@@ -6,18 +6,41 @@ ghost use mathlib.Core.Bool.{cond};
 ghost use Rattle.formats.specs.Octets.{badCode, badCodes};
 ghost use Rattle.formats.specs.Messages.{fixedLength, listed};
 
+// The headings of the two messages that have fields of their own.
+pub const IAM: u32 = 0x11;
+
+pub const ACM: u32 = 0x14;
+
+// A label is DPC and, so many times each, OPC and CIC.
+pub const OPC_PLACE: u64 = 0x4000;
+
+pub const CIC_PLACE: u64 = 0x10000000;
+
+// An IAM's two octets are its indicators and, so many times, its count of address signals.
+pub const COUNT_PLACE: u64 = 4096;
+
+// The octets of a message before its address signals: of one that has no fields of its own, label and heading.
+pub const PLAIN_OCTETS: usize = 6;
+
+pub const ACM_OCTETS: usize = 7;
+
+pub const IAM_OCTETS: usize = 9;
+
+// The address signal that ends the address.
+const ST: u8 = 15;
+
 // The octets that a message with the heading has before its address signals, 0 where no signal has the heading.
 pub fn fixed_length(heading: u32) -> usize
     ensures { λ r. ⌜ r ≡ cond (listed heading) (fixedLength heading) 0 ⌝ }
 {
-    if heading == 0x11 {
-        return 9;
+    if heading == IAM {
+        return IAM_OCTETS;
     }
-    if heading == 0x14 {
-        return 7;
+    if heading == ACM {
+        return ACM_OCTETS;
     }
     match codes::signal_of(heading, 0) {
-        Named::Known(_) => 6,
+        Named::Known(_) => PLAIN_OCTETS,
         Named::Unknown => 0,
     }
 }
@@ -26,7 +49,7 @@ pub fn fixed_length(heading: u32) -> usize
 fn bad_code(code: u8, more: bool) -> bool
     ensures { λ r. ⌜ r ≡ badCode code more ⌝ }
 {
-    if code == 15 {
+    if code == ST {
         return more;
     }
     if code == 10 {

@@ -1,11 +1,9 @@
 -- Cases of the paper: P10, and messages that are read and written or refused, each with what is wanted.
 -- Assumes nothing.
-use mathlib.Core.Path.{_≡_, refl}
-use mathlib.Core.List.{List, [], _∷_, _++_, map}
-use Prim.Native.Nat.{ℕ, _+_}
+use mathlib.Core.List.{List, [], _∷_, _++_}
+use Prim.Native.Nat.{ℕ}
 use lib.ListN.{replicate}
-use Rattle.reader.specs.Reading.{fieldsOf}
-use Rattle.writer.specs.Writing.{Said, said, tooLarge, badAddress, octetsOf, writing}
+use Rattle.writer.specs.Writing.{Said, said}
 
 -- a message of the exchange 2 to the exchange 1, and its octets
 pub record Written : Type 0 where
@@ -23,10 +21,6 @@ writtenCases =
     ∷ record { says = said 3 0x14 5 0 0 []; octets = from3 (0x14 ∷ 0x05 ∷ []) }
     ∷ record { says = said 3 0x11 0 10 3 (1 ∷ 2 ∷ 15 ∷ []); octets = from3 (0x11 ∷ 0x0a ∷ 0x03 ∷ 0x30 ∷ 0x21 ∷ 0x0f ∷ []) }
     ∷ []
-
-pub writtenHold : map (λ (c : Written). octetsOf 2 1 (c .says)) writtenCases ≡ map (λ (c : Written). c .octets) writtenCases
-unfolding writtenCases octetsOf
-writtenHold = refl
 
 -- octets that the exchange 1 reads from the exchange 2 in a group of so many records, and the refusal, 0 for none
 pub record Arrived : Type 0 where
@@ -54,10 +48,6 @@ arrivedCases =
     ∷ record { records = 4; octets = from3 (0x11 ∷ 0xca ∷ 0x03 ∷ 0x18 ∷ 0xa1 ∷ []); refusal = 0 }
     ∷ []
 
-pub arrivedHold : map (λ (c : Arrived). fieldsOf 1 2 (c .records) (c .octets) .refusal) arrivedCases ≡ map (λ (c : Arrived). c .refusal) arrivedCases
-unfolding arrivedCases fieldsOf
-arrivedHold = refl
-
 -- a message that the exchange 2 is to write to the exchange 1 into a buffer of so many octets, and the refusal
 pub record Ordered : Type 0 where
   pub says : Said
@@ -81,7 +71,3 @@ orderedCases =
     ∷ record { says = said 3 0x11 0 0 0 (15 ∷ []); room = 10; refusal = 0 }
     ∷ record { says = said 3 0x11 0 0 0 (1 ∷ []); room = 9; refusal = 11 }
     ∷ []
-
-pub orderedHold : map (λ (c : Ordered). writing 2 1 1 (c .says) (replicate (c .room) 0) .answer .refusal) orderedCases ≡ map (λ (c : Ordered). c .refusal) orderedCases
-unfolding orderedCases writing octetsOf tooLarge badAddress
-orderedHold = refl

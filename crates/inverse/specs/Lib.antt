@@ -1,8 +1,4 @@
-pub mod Numbers
-pub mod Groups
 pub mod Said
-pub mod ReadBack
-pub mod Different
-pub mod WriteBack
-pub mod Laws
+pub mod Octets
+pub mod Host
 pub mod Cases

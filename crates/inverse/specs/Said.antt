@@ -1,9 +1,10 @@
 -- A message as the writer is told it and as the reader tells it.
 -- Assumes nothing.
 use mathlib.Core.Bool.{cond}
-use lib.ListN.{take}
+use Prim.Native.Nat.{ℕ, _+_}
+use lib.ListN.{length, take}
 use Rattle.reader.specs.declared.Fields.{Fields}
-use Rattle.formats.specs.Messages.{isIam}
+use Rattle.formats.specs.Messages.{isIam, fixedLength, half}
 use Rattle.reader.specs.Reading.{plainFields, iamFields}
 use Rattle.writer.specs.Writing.{Said, said}
 
@@ -14,3 +15,7 @@ fieldsSaid m = cond (isIam (m .heading)) (iamFields (m .cic) (m .category) (m .i
 -- what a writer is to say of the fields that were read
 abbrev pub saidOf : Fields → Said
 saidOf f = said (f .circuit .0) (f .heading) (f .acm) (f .category) (f .indicators) (take (f .count) (f .address))
+
+-- how long the message is: 6 octets, an ACM 7, an IAM 9 and half its count of address signals rounded up
+abbrev pub lengthOf : Said → ℕ
+lengthOf m = fixedLength (m .heading) + cond (isIam (m .heading)) (half (length (m .address))) 0

@@ -10,14 +10,21 @@ ghost use Rattle.words.specs.Octets.{over};
 ghost use Rattle.writer.specs.Writing.{said};
 ghost use Rattle.link.specs.Entries.{fieldsOctets, readInto, writeFrom};
 
-// Fifteen codes, from octet 8 on.
+// The octets that the fields of a message take, and where its fifteen codes stand among them.
+const FIELDS_OCTETS: usize = 23;
+
+const CODES_FROM: usize = 8;
+
+const CODES: usize = 15;
+
+// Fifteen codes, behind the other fields.
 fn put_codes(address: &[u8], out: &mut [u8])
     requires { ⌜ (length (now address) ≡ 15) × (23 ≤ length (now out)) ⌝ }
     ensures { λ _. ⌜ now (out .exit) ≡ paste (now (out .entry)) 8 (now (address .entry)) 15 ⌝ }
 {
     let mut i = 0;
-    while i < 15 {
-        out[8 + i] = address[i];
+    while i < CODES {
+        out[CODES_FROM + i] = address[i];
         i += 1;
     }
 }
@@ -49,7 +56,7 @@ pub fn read_into(own: u32, far: u32, count: u32, octets: &[u8], out: &mut [u8]) 
     if f.refusal != 0 {
         return f.refusal as u32;
     }
-    if out.len() < 23 {
+    if out.len() < FIELDS_OCTETS {
         return 11;
     }
     put_fields(f, out);

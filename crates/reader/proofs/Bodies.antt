@@ -17,7 +17,8 @@ use Rattle.formats.specs.Octets.{halves, badCodes}
 use Rattle.words.specs.Octets.{over}
 use Rattle.formats.specs.Messages.{listed, isIam, isAcm, fixedLength, half}
 use Rattle.reader.specs.Places.{labelIn, cicIn, headingIn, sixBitsIn, wordIn, indicatorsIn, countIn, addressIn}
-use Rattle.reader.specs.Reading.{elsewhere, unfit, bodyRules, noCodes, refused, plainFields, iamFields, fieldsIn, unless, bodyOf, fieldsOf}
+use Rattle.reader.specs.Reading.{elsewhere, unfit, bodyRules, noCodes, refused, plainFields, iamFields, fieldsIn, unless, fieldsOf}
+use Rattle.reader.specs.Way.{bodyOf}
 use Rattle.reader.proofs.Signals.{length-halves}
 use Rattle.formats.proofs.Lengths.{no-length, a-length, the-length}
 

@@ -13,7 +13,7 @@ use Rattle.reader.specs.declared.Reading.{Reading}
 use Rattle.circuit.specs.Refusals.{refuse, Rule, firstOf}
 use Rattle.formats.specs.Octets.{badCodes}
 use Rattle.words.specs.Octets.{over}
-use Rattle.formats.specs.Messages.{listed, isIam, isAcm, fixedLength, half}
+use Rattle.formats.specs.Messages.{listed, iamHeading, isIam, isAcm, fixedLength, half}
 use Rattle.reader.specs.Places.{dpcIn, opcIn, cicIn, headingIn, sixBitsIn, indicatorsIn, countIn, addressIn}
 
 -- DPC is not the own code or OPC not the far one
@@ -56,7 +56,7 @@ abbrev pub plainFields : ℕ → ℕ → ℕ → Fields
 plainFields circuit heading acm = record { refusal = 0; circuit = record { 0 = circuit }; heading = heading; acm = acm; category = 0; indicators = 0; count = 0; address = noCodes }
 
 abbrev pub iamFields : ℕ → ℕ → ℕ → List ℕ → Fields
-iamFields circuit category indicators address = record { refusal = 0; circuit = record { 0 = circuit }; heading = 0x11; acm = 0; category = category; indicators = indicators; count = length address; address = over address noCodes }
+iamFields circuit category indicators address = record { refusal = 0; circuit = record { 0 = circuit }; heading = iamHeading; acm = 0; category = category; indicators = indicators; count = length address; address = over address noCodes }
 
 -- what the octets say; a field that the heading does not have is 0, and so is a place of the address that is not used
 abbrev pub fieldsIn : ℕ → List ℕ → Fields
@@ -69,9 +69,6 @@ fieldsIn heading xs =
 abbrev pub unless : ℕ → Fields → Fields
 unless zero fields = fields
 unless (suc n) fields = refused (suc n)
-
-unfoldable pub bodyOf : ℕ → ℕ → List ℕ → Fields
-bodyOf records heading xs = unless (firstOf (bodyRules records heading xs)) (fieldsIn heading xs)
 
 unfoldable pub fieldsOf : ℕ → ℕ → ℕ → List ℕ → Fields
 fieldsOf own far records xs = unless (firstOf (readRules own far records xs)) (fieldsIn (headingIn xs) xs)

@@ -4,15 +4,20 @@ use circuit::PointCode;
 use codes::Named;
 ghost use mathlib.Core.Path.{_≡_};
 ghost use mathlib.Core.Bool.{cond, not, _||_};
-ghost use mathlib.Core.List.{[], _∷_};
 ghost use lib.Dec.{eqb};
 ghost use Prim.Native.Nat.{_+_, _/_, _%_, _≤_, _^_};
 ghost use lib.ListN.{length, drop, take};
 ghost use Rattle.formats.specs.Octets.{halves};
-ghost use Rattle.words.specs.Octets.{numberOf, over};
-ghost use Rattle.formats.specs.Messages.{half};
+ghost use Rattle.words.specs.Octets.{over};
+ghost use Rattle.formats.specs.Messages.{half, iamHeading};
 ghost use Rattle.reader.specs.Places.{cicIn, headingIn};
-ghost use Rattle.reader.specs.Reading.{noCodes, refused, plainFields, bodyOf, fieldsOf, reading};
+ghost use Rattle.reader.specs.Reading.{noCodes, refused, plainFields, fieldsOf, reading};
+ghost use Rattle.reader.specs.Way.{bodyOf};
+
+// The two octets of an IAM's indicators and count have a spare bit, and ACM's octet and IAM's category have two: what they say lies below.
+const SPARE_INDICATOR: u64 = 2048;
+
+const SPARE_BITS: u8 = 64;
 
 // A message by numbers, or the refusal of one with every other field 0: circuit, heading, ACM's octet, IAM's category, indicators and count,
 // and its address signals. A field that the heading does not have is 0, and so is each code from the count on.
@@ -44,13 +49,6 @@ pub struct Reading {
     pub message: Message,
 }
 
-// The five octets of a label as a number.
-fn label_of(a: u8, b: u8, c: u8, d: u8, e: u8) -> u64
-    ensures { λ r. ⌜ r ≡ numberOf (a ∷ b ∷ c ∷ d ∷ e ∷ []) ⌝ }
-{
-    a as u64 + 256 * (b as u64 + 256 * (c as u64 + 256 * (d as u64 + 256 * (e as u64))))
-}
-
 // The address signal at a place, of the octet that holds it.
 fn half_of(octet: u8, place: usize) -> u8
     ensures { λ r. ⌜ r ≡ cond (eqb (place % 2) 0) (octet % 16) (octet / 16) ⌝ }
@@ -70,7 +68,7 @@ fn codes_in(octets: &[u8], count: usize) -> [u8; 15]
     let mut codes = [0u8; 15];
     let mut i = 0;
     while i < count {
-        codes[i] = half_of(octets[9 + i / 2], i);
+        codes[i] = half_of(octets[formats::IAM_OCTETS + i / 2], i);
         i += 1;
     }
     codes
@@ -106,27 +104,20 @@ fn plain_fields(circuit: Cic, heading: u8, acm: u8) -> Fields
     }
 }
 
-// Two octets as a number.
-fn word_of(low: u8, high: u8) -> u32
-    ensures { λ r. ⌜ r ≡ numberOf (low ∷ high ∷ []) ⌝ }
-{
-    low as u32 + 256 * (high as u32)
-}
-
 // An IAM whose label is in order.
 fn read_iam(records: usize, circuit: Cic, octets: &[u8]) -> Fields
     requires { ⌜ circuit .0 ≡ cicIn (now octets) ⌝ }
-    ensures { λ r. ⌜ r ≡ bodyOf records 0x11 (now (octets .entry)) ⌝ }
+    ensures { λ r. ⌜ r ≡ bodyOf records iamHeading (now (octets .entry)) ⌝ }
 {
-    if octets.len() < 9 {
+    if octets.len() < formats::IAM_OCTETS {
         return refused(7);
     }
-    let word = word_of(octets[7], octets[8]);
-    let count = (word / 4096) as usize;
+    let word = words::number(octets[7], octets[8], 0, 0, 0, 0, 0, 0);
+    let count = (word / formats::COUNT_PLACE) as usize;
     if count == 0 {
         return refused(10);
     }
-    if octets.len() != 9 + (count + 1) / 2 {
+    if octets.len() != formats::IAM_OCTETS + (count + 1) / 2 {
         return refused(7);
     }
     let codes = codes_in(octets, count);
@@ -139,10 +130,10 @@ fn read_iam(records: usize, circuit: Cic, octets: &[u8]) -> Fields
     Fields {
         refusal: 0,
         circuit: circuit,
-        heading: 0x11,
+        heading: formats::IAM as u8,
         acm: 0,
-        category: octets[6] % 64,
-        indicators: word % 2048,
+        category: octets[6] % SPARE_BITS,
+        indicators: (word % SPARE_INDICATOR) as u32,
         count: count as u8,
         address: codes,
     }
@@ -154,7 +145,7 @@ fn read_body(records: usize, circuit: Cic, octets: &[u8]) -> Fields
     ensures { λ r. ⌜ r ≡ bodyOf records (headingIn (now (octets .entry))) (now (octets .entry)) ⌝ }
 {
     let heading = octets[5];
-    if heading == 0x11 {
+    if heading == formats::IAM as u8 {
         return read_iam(records, circuit, octets);
     }
     let fixed = formats::fixed_length(heading as u32);
@@ -167,8 +158,8 @@ fn read_body(records: usize, circuit: Cic, octets: &[u8]) -> Fields
     if records <= circuit.0 as usize {
         return refused(2);
     }
-    if heading == 0x14 {
-        return plain_fields(circuit, heading, octets[6] % 64);
+    if heading == formats::ACM as u8 {
+        return plain_fields(circuit, heading, octets[6] % SPARE_BITS);
     }
     plain_fields(circuit, heading, 0)
 }
@@ -177,10 +168,10 @@ fn read_body(records: usize, circuit: Cic, octets: &[u8]) -> Fields
 fn elsewhere(own: PointCode, far: PointCode, label: u64) -> bool
     ensures { λ r. ⌜ r ≡ (not (eqb (label % 2 ^ 14) (own .0)) || not (eqb (label / 2 ^ 14 % 2 ^ 14) (far .0))) ⌝ }
 {
-    if label % 16384 != own.0 as u64 {
+    if label % formats::OPC_PLACE != own.0 as u64 {
         return true;
     }
-    label / 16384 % 16384 != far.0 as u64
+    label / formats::OPC_PLACE % formats::OPC_PLACE != far.0 as u64
 }
 
 // What the octets that arrived from the far end say by numbers, in a group with so many records.
@@ -190,14 +181,23 @@ pub fn read_fields(own: PointCode, far: PointCode, records: usize, octets: &[u8]
     if circuit::bad_group(own, far, records) {
         return refused(1);
     }
-    if octets.len() < 6 {
+    if octets.len() < formats::PLAIN_OCTETS {
         return refused(7);
     }
-    let label = label_of(octets[0], octets[1], octets[2], octets[3], octets[4]);
+    let label = words::number(
+        octets[0],
+        octets[1],
+        octets[2],
+        octets[3],
+        octets[4],
+        0,
+        0,
+        0,
+    );
     if elsewhere(own, far, label) {
         return refused(8);
     }
-    read_body(records, Cic((label / 268435456) as u32), octets)
+    read_body(records, Cic((label / formats::CIC_PLACE) as u32), octets)
 }
 
 // The same as a message that names its signal.

@@ -15,7 +15,8 @@ use Rattle.circuit.specs.Refusals.{refuse, firstOf}
 use Rattle.formats.specs.Octets.{pairs}
 use Rattle.words.specs.Octets.{over}
 use Rattle.formats.specs.Messages.{listed, isIam, isAcm, fixedLength, half}
-use Rattle.writer.specs.Writing.{Said, tooLarge, badAddress, labelOf, plainOctets, acmOctets, iamHead, iamOctets, shortOctets, octetsOf, Outcome, unwritten, putting, writing, iamWriting, shortWriting}
+use Rattle.writer.specs.Writing.{Said, tooLarge, badAddress, labelOf, plainOctets, acmOctets, iamHead, iamOctets, shortOctets, octetsOf, Outcome, unwritten, putting, writing}
+use Rattle.writer.specs.Way.{iamWriting, shortWriting}
 use Rattle.writer.proofs.Pairs.{length-pairs}
 use Rattle.formats.proofs.Stores.{paste-behind}
 

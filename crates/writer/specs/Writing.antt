@@ -10,7 +10,7 @@ use Rattle.writer.specs.declared.Written.{Written}
 use Rattle.circuit.specs.Refusals.{refuse, Rule, firstOf}
 use Rattle.formats.specs.Octets.{pairs, badCodes, aboveFifteen}
 use Rattle.words.specs.Octets.{lowFirst, over}
-use Rattle.formats.specs.Messages.{listed, isIam, isAcm}
+use Rattle.formats.specs.Messages.{listed, iamHeading, acmHeading, isIam, isAcm}
 
 -- what the writer is told to say
 pub record Said : Type 0 where
@@ -55,10 +55,10 @@ abbrev pub plainOctets : ℕ → ℕ → List ℕ
 plainOctets label heading = lowFirst 5 label ++ (heading ∷ [])
 
 abbrev pub acmOctets : ℕ → ℕ → List ℕ
-acmOctets label acm = lowFirst 5 label ++ (0x14 ∷ acm ∷ [])
+acmOctets label acm = lowFirst 5 label ++ (acmHeading ∷ acm ∷ [])
 
 abbrev pub iamHead : ℕ → ℕ → ℕ → List ℕ
-iamHead label category word = lowFirst 5 label ++ (0x11 ∷ category ∷ lowFirst 2 word)
+iamHead label category word = lowFirst 5 label ++ (iamHeading ∷ category ∷ lowFirst 2 word)
 
 abbrev pub iamOctets : ℕ → ℕ → ℕ → List ℕ → List ℕ
 iamOctets label category indicators address = iamHead label category (indicators + 4096 * length address) ++ pairs address
@@ -98,12 +98,3 @@ putting (suc n) xs buffer = record { answer = unwritten (suc n); buffer = buffer
 
 unfoldable pub writing : ℕ → ℕ → ℕ → Said → List ℕ → Outcome
 writing own far records m buffer = putting (firstOf (writeRules own far records m (length buffer))) (octetsOf own far m) buffer
-
--- the last two tests, of an IAM, and the last one, of any other message
-unfoldable pub iamWriting : ℕ → ℕ → ℕ → List ℕ → List ℕ → Outcome
-iamWriting label category indicators address buffer =
-    putting (firstOf (refuse 10 (badAddress address) ∷ refuse 11 (ltb (length buffer) (length (iamOctets label category indicators address))) ∷ []))
-    (iamOctets label category indicators address) buffer
-
-unfoldable pub shortWriting : ℕ → ℕ → ℕ → List ℕ → Outcome
-shortWriting label heading acm buffer = putting (firstOf (refuse 11 (ltb (length buffer) (length (shortOctets label heading acm))) ∷ [])) (shortOctets label heading acm) buffer

@@ -9,7 +9,19 @@ ghost use lib.Seq.{paste};
 ghost use Rattle.formats.specs.Octets.{pairs, aboveFifteen};
 ghost use Rattle.words.specs.Octets.{over};
 ghost use Rattle.formats.specs.Messages.{fixedLength, half, listed, isIam};
-ghost use Rattle.writer.specs.Writing.{said, tooLarge, badAddress, plainOctets, acmOctets, iamHead, labelOf, acmLimit, unwritten, iamWriting, shortWriting, writing};
+ghost use Rattle.writer.specs.Writing.{said, tooLarge, badAddress, plainOctets, acmOctets, iamHead, labelOf, acmLimit, unwritten, writing};
+ghost use Rattle.writer.specs.Way.{iamWriting, shortWriting};
+
+// The largest circuit number, address signal and count of them, and the most that a field may be: no spare bit is set.
+const LAST_CIC: u32 = 4095;
+
+const LAST_CODE: u8 = 15;
+
+const MOST_CODES: usize = 15;
+
+const SIX_BITS: u32 = 63;
+
+const INDICATORS: u32 = 2047;
 
 // The refusal's number, 0 where there is none, and how many octets the message has, 0 where it is refused.
 pub struct Written {
@@ -29,7 +41,7 @@ fn above_fifteen(address: &[u8]) -> bool
 {
     let mut i = 0;
     while i < address.len() {
-        if 15 < address[i] {
+        if LAST_CODE < address[i] {
             return true;
         }
         i += 1;
@@ -48,14 +60,14 @@ fn too_large(
 ) -> bool
     ensures { λ r. ⌜ r ≡ tooLarge (said cic heading acm category indicators (now (address .entry))) ⌝ }
 {
-    let iam = heading == 0x11;
-    if limit(heading == 0x14, 63) < acm {
+    let iam = heading == formats::IAM;
+    if limit(heading == formats::ACM, SIX_BITS) < acm {
         return true;
     }
-    if limit(iam, 63) < category {
+    if limit(iam, SIX_BITS) < category {
         return true;
     }
-    if limit(iam, 2047) < indicators {
+    if limit(iam, INDICATORS) < indicators {
         return true;
     }
     if iam {
@@ -70,7 +82,7 @@ fn bad_address(address: &[u8]) -> bool
     if address.len() == 0 {
         return true;
     }
-    if 15 < address.len() {
+    if MOST_CODES < address.len() {
         return true;
     }
     formats::bad_codes(address)
@@ -98,7 +110,7 @@ fn put_acm(label: u64, acm: u8, out: &mut [u8])
     requires { ⌜ 7 ≤ length (now out) ⌝ }
     ensures { λ _. ⌜ now (out .exit) ≡ over (acmOctets label acm) (now (out .entry)) ⌝ }
 {
-    put_plain(label, 0x14, out);
+    put_plain(label, formats::ACM as u8, out);
     out[6] = acm;
 }
 
@@ -107,7 +119,7 @@ fn put_iam(label: u64, category: u8, word: u32, out: &mut [u8])
     requires { ⌜ 9 ≤ length (now out) ⌝ }
     ensures { λ _. ⌜ now (out .exit) ≡ over (iamHead label category word) (now (out .entry)) ⌝ }
 {
-    put_plain(label, 0x11, out);
+    put_plain(label, formats::IAM as u8, out);
     out[6] = category;
     out[7] = (word % 256) as u8;
     out[8] = (word / 256 % 256) as u8;
@@ -121,11 +133,11 @@ fn put_pairs(address: &[u8], out: &mut [u8])
     let n = address.len();
     let mut j = 0;
     while j < n / 2 {
-        out[9 + j] = address[2 * j] + 16 * address[2 * j + 1];
+        out[formats::IAM_OCTETS + j] = address[2 * j] + 16 * address[2 * j + 1];
         j += 1;
     }
     if n % 2 == 1 {
-        out[9 + j] = address[2 * j];
+        out[formats::IAM_OCTETS + j] = address[2 * j];
     }
 }
 
@@ -142,7 +154,7 @@ fn unwritten(n: u8) -> Written
 fn label_to(own: PointCode, far: PointCode, cic: Cic) -> u64
     ensures { λ r. ⌜ r ≡ labelOf (own .0) (far .0) (cic .0) ⌝ }
 {
-    far.0 as u64 + 16384 * (own.0 as u64) + 268435456 * (cic.0 as u64)
+    far.0 as u64 + formats::OPC_PLACE * (own.0 as u64) + formats::CIC_PLACE * (cic.0 as u64)
 }
 
 // An IAM whose fields are in order.
@@ -155,14 +167,14 @@ fn write_iam(label: u64, category: u32, indicators: u32, address: &[u8], out: &m
         return unwritten(10);
     }
     let count = address.len();
-    let need = 9 + (count + 1) / 2;
+    let need = formats::IAM_OCTETS + (count + 1) / 2;
     if out.len() < need {
         return unwritten(11);
     }
     put_iam(
         label,
         category as u8,
-        indicators + 4096 * (count as u32),
+        indicators + formats::COUNT_PLACE as u32 * (count as u32),
         out,
     );
     put_pairs(address, out);
@@ -181,17 +193,17 @@ fn write_short(label: u64, heading: u32, acm: u32, fixed: usize, out: &mut [u8])
     if out.len() < fixed {
         return unwritten(11);
     }
-    if heading == 0x14 {
+    if heading == formats::ACM {
         put_acm(label, acm as u8, out);
         return Written {
             refusal: 0,
-            length: 7,
+            length: formats::ACM_OCTETS as u8,
         };
     }
     put_plain(label, heading as u8, out);
     Written {
         refusal: 0,
-        length: 6,
+        length: formats::PLAIN_OCTETS as u8,
     }
 }
 
@@ -215,7 +227,7 @@ pub fn write(
     if circuit::bad_group(own, far, records) {
         return unwritten(1);
     }
-    if 4095 < cic.0 {
+    if LAST_CIC < cic.0 {
         return unwritten(2);
     }
     let fixed = formats::fixed_length(heading);
@@ -226,7 +238,7 @@ pub fn write(
         return unwritten(3);
     }
     let label = label_to(own, far, cic);
-    if heading == 0x11 {
+    if heading == formats::IAM {
         return write_iam(label, category, indicators, address, out);
     }
     write_short(label, heading, acm, fixed, out)

@@ -3,7 +3,7 @@
 use native.Mathlib.Omega.{arith}
 use Rattle.formats.proofs.Lengths.{acm-length}
 use Rattle.reader.proofs.Bodies.{looked-none, looked-long, looked-beyond, looked-acm, looked-plain}
-use Rattle.reader.specs.Reading.{bodyOf}
+use Rattle.reader.specs.Way.{bodyOf}
 use Prim.Native.Nat.{ℕ}
 use mathlib.Core.Path.{sym, _∙_, ap}
 use borrow.Author.Needs.{needs}
@@ -12,6 +12,9 @@ use Rattle.reader.proofs.read_body.Tie as tie
 
 shared-slice-read-heading : tie.Need-shared-slice-read-heading
 shared-slice-read-heading c = search needs
+
+cast-if1 : tie.Need-cast-if1
+cast-if1 c = search needs
 
 read-iam-requires : tie.Need-read-iam-requires
 read-iam-requires c κs = search needs
@@ -46,6 +49,9 @@ refused-requires-3 c κs = search needs
 returns-4 : tie.Need-returns-4
 returns-4 c = c .refused3 .ensures ∙ sym (looked-beyond _ _ _ (c .before .before .before .before .before .before .if1 .left) _ (c .before .before .before .before .before .fixed-length .ensures) (c .before .before .before .before .if2 .left) (c .before .before .before .if3 .left) _ (c .before .before .before .before .before .before .before .before .before .pre .1) (c .before .if4 .taken))
 
+cast-if5 : tie.Need-cast-if5
+cast-if5 c = search needs
+
 shared-slice-read-plain-fields : tie.Need-shared-slice-read-plain-fields
 shared-slice-read-plain-fields c = omega (arith, acm-length _ _ (c .before .if5 .taken) (c .before .before .before .before .before .before .fixed-length .ensures), c .before .before .before .before .if3 .left)
 
@@ -66,6 +72,7 @@ read-body-spec =
     tie.close
     (tie.spec
     shared-slice-read-heading
+    cast-if1
     read-iam-requires
     returns
     cast-fixed-length
@@ -77,6 +84,7 @@ read-body-spec =
     cast-if4
     refused-requires-3
     returns-4
+    cast-if5
     shared-slice-read-plain-fields
     plain-fields-requires
     returns-5

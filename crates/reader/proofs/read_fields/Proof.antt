@@ -23,23 +23,23 @@ refused-requires-2 c κs = search needs
 returns-2 : tie.Need-returns-2
 returns-2 c = c .refused2 .ensures ∙ sym (short _ _ _ _ (sym (c .before .before .before .bad-group .ensures) ∙ c .before .before .if1 .left) (c .before .if2 .taken))
 
-shared-slice-read-label-of : tie.Need-shared-slice-read-label-of
-shared-slice-read-label-of c = search needs
+shared-slice-read-number : tie.Need-shared-slice-read-number
+shared-slice-read-number c = search needs
 
-shared-slice-read-label-of-2 : tie.Need-shared-slice-read-label-of-2
-shared-slice-read-label-of-2 c = search needs
+shared-slice-read-number-2 : tie.Need-shared-slice-read-number-2
+shared-slice-read-number-2 c = search needs
 
-shared-slice-read-label-of-3 : tie.Need-shared-slice-read-label-of-3
-shared-slice-read-label-of-3 c = search needs
+shared-slice-read-number-3 : tie.Need-shared-slice-read-number-3
+shared-slice-read-number-3 c = search needs
 
-shared-slice-read-label-of-4 : tie.Need-shared-slice-read-label-of-4
-shared-slice-read-label-of-4 c = search needs
+shared-slice-read-number-4 : tie.Need-shared-slice-read-number-4
+shared-slice-read-number-4 c = search needs
 
-shared-slice-read-label-of-5 : tie.Need-shared-slice-read-label-of-5
-shared-slice-read-label-of-5 c = search needs
+shared-slice-read-number-5 : tie.Need-shared-slice-read-number-5
+shared-slice-read-number-5 c = search needs
 
-label-of-requires : tie.Need-label-of-requires
-label-of-requires c κs = search needs
+number-requires : tie.Need-number-requires
+number-requires c κs = search needs
 
 elsewhere-requires : tie.Need-elsewhere-requires
 elsewhere-requires c κs = search needs
@@ -48,16 +48,16 @@ refused-requires-3 : tie.Need-refused-requires-3
 refused-requires-3 c κs = search needs
 
 returns-3 : tie.Need-returns-3
-returns-3 c = c .refused3 .ensures ∙ sym (stray _ _ _ (c .before .before .before .before .before .before .before .before .before .before .before .before .before .args .octets .now) (sym (c .before .before .before .before .before .before .before .before .before .before .before .bad-group .ensures) ∙ c .before .before .before .before .before .before .before .before .before .before .if1 .left) (c .before .before .before .before .before .before .before .before .before .if2 .left) (strays _ _ _ (c .before .before .before .before .before .before .before .before .before .before .before .before .before .args .octets .now) (c .before .before .before .label-of .ensures) (sym (c .before .before .elsewhere .ensures) ∙ c .before .if3 .taken)))
+returns-3 c = c .refused3 .ensures ∙ sym (stray _ _ _ (c .before .before .before .before .before .before .before .before .before .before .before .before .before .args .octets .now) (sym (c .before .before .before .before .before .before .before .before .before .before .before .bad-group .ensures) ∙ c .before .before .before .before .before .before .before .before .before .before .if1 .left) (c .before .before .before .before .before .before .before .before .before .if2 .left) (strays _ _ _ (c .before .before .before .before .before .before .before .before .before .before .before .before .before .args .octets .now) (c .before .before .before .number .ensures) (sym (c .before .before .elsewhere .ensures) ∙ c .before .if3 .taken)))
 
 cast-t21 : tie.Need-cast-t21
-cast-t21 c = let k = c .before .before .before .shared-slice-known6 .given in omega (arith, c .before .before .label-of .ensures, k 0, k 1, k 2, k 3, k 4)
+cast-t21 c = let k = c .before .before .before .shared-slice-known6 .given in omega (arith, c .before .before .number .ensures, k 0, k 1, k 2, k 3, k 4)
 
 read-body-requires : tie.Need-read-body-requires
-read-body-requires c κs = (search needs, ap (λ (l : ℕ). l / 268435456) (c .before .before .label-of .ensures))
+read-body-requires c κs = (search needs, ap (λ (l : ℕ). l / 268435456) (c .before .before .number .ensures))
 
 returns-4 : tie.Need-returns-4
-returns-4 c = c .read-body .ensures ∙ sym (ours _ _ _ (c .before .before .before .before .before .before .before .before .before .before .before .before .before .args .octets .now) (sym (c .before .before .before .before .before .before .before .before .before .before .before .bad-group .ensures) ∙ c .before .before .before .before .before .before .before .before .before .before .if1 .left) (c .before .before .before .before .before .before .before .before .before .if2 .left) (strays _ _ _ (c .before .before .before .before .before .before .before .before .before .before .before .before .before .args .octets .now) (c .before .before .before .label-of .ensures) (sym (c .before .before .elsewhere .ensures) ∙ c .before .if3 .left)))
+returns-4 c = c .read-body .ensures ∙ sym (ours _ _ _ (c .before .before .before .before .before .before .before .before .before .before .before .before .before .args .octets .now) (sym (c .before .before .before .before .before .before .before .before .before .before .before .bad-group .ensures) ∙ c .before .before .before .before .before .before .before .before .before .before .if1 .left) (c .before .before .before .before .before .before .before .before .before .if2 .left) (strays _ _ _ (c .before .before .before .before .before .before .before .before .before .before .before .before .before .args .octets .now) (c .before .before .before .number .ensures) (sym (c .before .before .elsewhere .ensures) ∙ c .before .if3 .left)))
 
 pub read-fields-spec : {M : Type 1} → statement M
 read-fields-spec =
@@ -68,12 +68,12 @@ read-fields-spec =
     returns
     refused-requires-2
     returns-2
-    shared-slice-read-label-of
-    shared-slice-read-label-of-2
-    shared-slice-read-label-of-3
-    shared-slice-read-label-of-4
-    shared-slice-read-label-of-5
-    label-of-requires
+    shared-slice-read-number
+    shared-slice-read-number-2
+    shared-slice-read-number-3
+    shared-slice-read-number-4
+    shared-slice-read-number-5
+    number-requires
     elsewhere-requires
     refused-requires-3
     returns-3

@@ -13,6 +13,9 @@ use borrow.Author.Needs.{needs}
 use Rattle.writer.proofs.put_iam.Statement.{statement}
 use Rattle.writer.proofs.put_iam.Tie as tie
 
+cast-put-plain : tie.Need-cast-put-plain
+cast-put-plain c = search needs
+
 put-plain-requires : tie.Need-put-plain-requires
 put-plain-requires c κs = search needs
 
@@ -41,6 +44,7 @@ pub put-iam-spec : {M : Type 1} → statement M
 put-iam-spec =
     tie.close
     (tie.spec
+    cast-put-plain
     put-plain-requires
     slice-write-out
     cast-out

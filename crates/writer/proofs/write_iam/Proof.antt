@@ -33,7 +33,10 @@ cast-put-iam : tie.Need-cast-put-iam
 cast-put-iam c = search needs
 
 cast-put-iam-2 : tie.Need-cast-put-iam-2
-cast-put-iam-2 c = omega (arith, few _ (sym (c .before .before .bad-address .ensures) ∙ c .before .if1 .left))
+cast-put-iam-2 c = search needs
+
+cast-put-iam-3 : tie.Need-cast-put-iam-3
+cast-put-iam-3 c = omega (arith, few _ (sym (c .before .before .bad-address .ensures) ∙ c .before .if1 .left))
 
 mul-put-iam : tie.Need-mul-put-iam
 mul-put-iam c = omega (arith, few _ (sym (c .before .before .bad-address .ensures) ∙ c .before .if1 .left))
@@ -69,6 +72,7 @@ write-iam-spec =
     returns-2
     cast-put-iam
     cast-put-iam-2
+    cast-put-iam-3
     mul-put-iam
     add-put-iam
     put-iam-requires

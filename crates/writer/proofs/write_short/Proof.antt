@@ -22,6 +22,9 @@ cast-put-acm c = omega (arith, acm-fits _ _ (c .if2 .taken) (c .before .before .
 put-acm-requires : tie.Need-put-acm-requires
 put-acm-requires c κs = omega (arith, c .before .before .before .before .pre .3 ∙ ap fixedLength (c .before .if2 .taken))
 
+cast-t9 : tie.Need-cast-t9
+cast-t9 c = search needs
+
 same-length : tie.Need-same-length
 same-length c = search needs
 
@@ -33,6 +36,9 @@ cast-put-plain c = omega (arith, octet (c .before .before .before .args .heading
 
 put-plain-requires : tie.Need-put-plain-requires
 put-plain-requires c κs = omega (arith, c .before .before .before .before .pre .3, six-or-more (c .before .before .before .before .args .heading))
+
+cast-t13 : tie.Need-cast-t13
+cast-t13 c = search needs
 
 same-length-2 : tie.Need-same-length-2
 same-length-2 c = search needs
@@ -48,9 +54,11 @@ write-short-spec =
     returns
     cast-put-acm
     put-acm-requires
+    cast-t9
     same-length
     returns-2
     cast-put-plain
     put-plain-requires
+    cast-t13
     same-length-2
     returns-3)

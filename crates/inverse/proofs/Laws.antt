@@ -1,39 +1,32 @@
 -- The laws of messages on the link, over the definitions that the contracts of `reader`, `writer` and `link` cite.
 -- Assumes nothing.
-use mathlib.Core.Path.{_≡_, refl, sym, ap, _∙_, subst}
+use mathlib.Core.Path.{_≡_, refl, sym, ap, _∙_}
 use mathlib.Core.Bool.{Bool, true, false, cond}
-use mathlib.Core.List.{List, [], _∷_}
-use mathlib.Core.Logic.{_↔_, _⊎_, inl, inr, ⊎-elim}
-use Prim.Native.Nat.{ℕ, zero, suc, _+_, _<_, _≤_}
+use mathlib.Core.List.{List}
+use Prim.Native.Nat.{ℕ, _+_, _<_, _≤_}
 use native.Mathlib.Omega.{arith}
-use lib.Dec.{T}
 use lib.ListN.{length, take, drop}
 use lib.Seq.{take-append-seam}
 use Rattle.circuit.specs.Groups.{badGroup}
 use Rattle.reader.specs.declared.Reading.{Reading}
-use Rattle.circuit.specs.Refusals.{refuse, Rule, firstOf}
+use Rattle.circuit.specs.Refusals.{firstOf}
 use Rattle.words.specs.Octets.{over}
-use Rattle.formats.specs.Messages.{isIam, isAcm, fixedLength, half}
+use Rattle.formats.specs.Messages.{isIam, isAcm, half}
 use Rattle.writer.specs.declared.Written.{Written}
-use Rattle.reader.specs.Reading.{readRules, fieldsOf, reading}
+use Rattle.reader.specs.Reading.{fieldsOf, reading}
 use Rattle.writer.specs.Writing.{Said, labelOf, octetsOf, writeRules, putting, Outcome, writing, iamOctets, acmOctets, plainOctets}
 use Rattle.link.specs.Entries.{readInto, writeFrom}
 use Rattle.writer.proofs.Pairs.{length-pairs}
-use Rattle.inverse.specs.Numbers.{Octets}
-use Rattle.inverse.specs.Said.{fieldsSaid, saidOf}
-use Rattle.inverse.specs.ReadBack.{octetsRead}
-use Rattle.inverse.specs.Different.{sameMessage}
-use Rattle.inverse.specs.WriteBack.{cleared, writtenAgain}
-
--- no refusal means that no test held
-refusalOf : (n : ℕ) (xs buffer : List ℕ) → putting n xs buffer .answer .refusal ≡ n
-refusalOf zero xs buffer = refl
-refusalOf (suc n) xs buffer = refl
+use Rattle.inverse.specs.Octets.{Octets, cleared}
+use Rattle.inverse.specs.Said.{fieldsSaid, saidOf, lengthOf}
+use Rattle.inverse.proofs.Refusals.{writeRefusal}
+use Rattle.inverse.proofs.ReadBack.{octetsRead}
+use Rattle.inverse.proofs.Different.{sameMessage}
+use Rattle.inverse.proofs.WriteBack.{writtenAgain}
 
 module _ (own far records : ℕ) (m : Said) (buffer : List ℕ) (ok : writing own far records m buffer .answer .refusal ≡ 0) where
   pub untested : firstOf (writeRules own far records m (length buffer)) ≡ 0
-  unfolding writing
-  untested = sym (refusalOf (firstOf (writeRules own far records m (length buffer))) (octetsOf own far m) buffer) ∙ ok
+  untested = sym (writeRefusal own far records m buffer) ∙ ok
 
   pub written : writing own far records m buffer ≡ putting 0 (octetsOf own far m) buffer
   unfolding writing
@@ -60,10 +53,6 @@ pub different : (own far records records' : ℕ) (m m' : Said) (buffer buffer' :
 different own far records records' m m' buffer buffer' ok ok' d e =
     d (sameMessage own far records records' m m' (length buffer) (length buffer') (untested own far records m buffer ok) (untested own far records' m' buffer' ok') e)
 
--- Every length that the writer can answer fits the heading: 6, an ACM 7, an IAM 9 and half the count rounded up.
-abbrev pub lengthOf : Said → ℕ
-lengthOf m = fixedLength (m .heading) + cond (isIam (m .heading)) (half (length (m .address))) 0
-
 octetsLong : (own far : ℕ) (m : Said) → length (octetsOf own far m) ≡ lengthOf m
 unfolding octetsOf
 octetsLong own far m = go (isIam (m .heading)) (isAcm (m .heading))
@@ -75,26 +64,10 @@ octetsLong own far m = go (isIam (m .heading)) (isAcm (m .heading))
     go false true = refl
     go false false = refl
 
+-- Every length that the writer can answer fits the heading: 6, an ACM 7, an IAM 9 and half the count rounded up.
 pub lengthFits : (own far records : ℕ) (m : Said) (buffer : List ℕ) → writing own far records m buffer .answer .refusal ≡ 0
     → writing own far records m buffer .answer .length ≡ lengthOf m
 lengthFits own far records m buffer ok = ap (λ (o : Outcome). o .answer .length) (written own far records m buffer ok) ∙ octetsLong own far m
-
--- A refusal's number is given exactly when a test with this number holds and none before it does.
-unfoldable pub Given : ℕ → List Rule → Type 0
-Given n [] = ⊥
-Given n (refuse k holds ∷ rules) = ((holds ≡ true) × (k ≡ n)) ⊎ ((holds ≡ false) × Given n rules)
-
-pub exactly : (rules : List Rule) (n : ℕ) → (firstOf rules ≡ suc n) ↔ Given (suc n) rules
-unfolding Given
-exactly [] n = (λ e. omega arith, λ g. absurd g)
-exactly (refuse k true ∷ rules) n = (λ e. inl (refl, e), λ g. ⊎-elim (λ h. h .1) (λ h. absurd (subst T (h .0) tt)) g)
-exactly (refuse k false ∷ rules) n = (λ e. inr (refl, exactly rules n .0 e), λ g. ⊎-elim (λ h. absurd (subst T (sym (h .0)) tt)) (λ h. exactly rules n .1 (h .1)) g)
-
-pub readRefusals : (own far records : ℕ) (xs : List ℕ) (n : ℕ) → (firstOf (readRules own far records xs) ≡ suc n) ↔ Given (suc n) (readRules own far records xs)
-readRefusals own far records xs = exactly (readRules own far records xs)
-
-pub writeRefusals : (own far records : ℕ) (m : Said) (room n : ℕ) → (firstOf (writeRules own far records m room) ≡ suc n) ↔ Given (suc n) (writeRules own far records m room)
-writeRefusals own far records m room = exactly (writeRules own far records m room)
 
 -- Any two answers that a contract allows are equal, and so are any two buffers after it.
 pub readOnce : (own far records : ℕ) (xs : List ℕ) {r s : Reading} → r ≡ reading own far records xs → s ≡ reading own far records xs → r ≡ s

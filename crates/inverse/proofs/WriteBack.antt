@@ -6,30 +6,25 @@ use mathlib.Core.List.{List, [], _∷_, _++_}
 use Prim.Native.Nat.{ℕ, zero, suc, _+_, _*_, _-_, _/_, _%_, _<_, _≤_}
 use native.Mathlib.Omega.{arith}
 use borrow.Author.Tests.{le-ltb, ltb-false, eqb-true, not-false}
-use lib.Dec.{T, eqb, ltb, leb, lit<}
+use lib.Dec.{T, eqb, ltb, lit<}
 use lib.ListN.{length, getD, take, drop, length-append, length-drop}
 use lib.Seq.{take-append-seam, length-take-le}
-use Rattle.circuit.specs.Groups.{badGroup}
 use Rattle.reader.specs.declared.Fields.{Fields}
-use Rattle.circuit.specs.Refusals.{refuse, firstOf}
+use Rattle.circuit.specs.Refusals.{firstOf, Clear}
+use Rattle.circuit.proofs.Refusals.{clear, noneGiven}
 use Rattle.formats.specs.Octets.{pairs, halves, badCodes, aboveFifteen}
 use Rattle.words.specs.Octets.{lowFirst, numberOf, over}
 use Rattle.formats.specs.Messages.{listed, isIam, isAcm, fixedLength, half}
 use Rattle.reader.specs.Places.{labelIn, dpcIn, opcIn, cicIn, headingIn, sixBitsIn, indicatorsIn, countIn, addressIn}
-use Rattle.reader.specs.Reading.{elsewhere, unfit, bodyRules, readRules, noCodes, plainFields, iamFields, fieldsIn, unless, fieldsOf}
+use Rattle.reader.specs.Reading.{bodyRules, readRules, noCodes, plainFields, iamFields, fieldsIn, unless, fieldsOf}
 use Rattle.writer.specs.Writing.{Said, said, tooLarge, badAddress, labelOf, plainOctets, acmOctets, iamOctets, shortOctets, octetsOf, writeRules, putting, writing}
 use Rattle.reader.proofs.Signals.{length-halves}
 use Rattle.writer.proofs.Pairs.{length-pairs}
-use Rattle.inverse.specs.Numbers.{Octets, octetsBack, withoutFiller, pairsBack, halvesFit, laterOctets}
-use Rattle.inverse.specs.Groups.{Clear, clear, turned, recordsFit}
+use Rattle.inverse.specs.Octets.{Octets, withoutFiller, cleared}
+use Rattle.inverse.proofs.Numbers.{octetsBack, pairsBack, halvesFit, laterOctets}
+use Rattle.inverse.proofs.Groups.{turned, recordsFit}
+use Rattle.inverse.proofs.Refusals.{readRefusal}
 use Rattle.inverse.specs.Said.{saidOf}
-
--- the octets of a message with spare bits and filler cleared: in an ACM's octet and in an IAM's category the top two bits, in an IAM's ninth
--- octet the bit worth 8 (2048 of the two octets), and the filler after an odd count of address signals
-abbrev pub cleared : List ℕ → List ℕ
-cleared xs =
-    cond (isIam (headingIn xs)) (take 6 xs ++ (getD xs 6 0 % 64 ∷ getD xs 7 0 ∷ (getD xs 8 0 / 16 * 16 + getD xs 8 0 % 8) ∷ withoutFiller (countIn xs) (drop 9 xs)))
-    (cond (isAcm (headingIn xs)) (take 6 xs ++ (getD xs 6 0 % 64 ∷ [])) (take 6 xs))
 
 firstSix : (xs : List ℕ) → 6 ≤ length xs → take 6 xs ≡ getD xs 0 0 ∷ getD xs 1 0 ∷ getD xs 2 0 ∷ getD xs 3 0 ∷ getD xs 4 0 ∷ getD xs 5 0 ∷ []
 firstSix [] h = absurd (omega arith)
@@ -58,41 +53,21 @@ wordOctets low high count l h e =
 
 -- the nine tests of the reader, none of which holds
 module _ (own far records : ℕ) (xs : List ℕ) (octets : Octets xs) (ok : fieldsOf own far records xs .refusal ≡ 0) where
-  number : (n : ℕ) (f : Fields) → f .refusal ≡ 0 → unless n f .refusal ≡ 0 → n ≡ 0
-  number zero f e p = refl
-  number (suc n) f e p = p
-
-  told : fieldsIn (headingIn xs) xs .refusal ≡ 0
-  told = go (isIam (headingIn xs))
-    where
-      go : (b : Bool) → cond b (iamFields (cicIn xs) (sixBitsIn xs) (indicatorsIn xs) (addressIn xs)) (plainFields (cicIn xs) (headingIn xs) (cond (isAcm (headingIn xs)) (sixBitsIn xs) 0)) .refusal ≡ 0
-      go true = refl
-      go false = refl
-
   none : firstOf (readRules own far records xs) ≡ 0
-  unfolding fieldsOf
-  none = number (firstOf (readRules own far records xs)) (fieldsIn (headingIn xs) xs) told ok
+  none = sym (readRefusal own far records xs) ∙ ok
 
   pub accepted : fieldsOf own far records xs ≡ fieldsIn (headingIn xs) xs
   unfolding fieldsOf
   accepted = ap (λ (n : ℕ). unless n (fieldsIn (headingIn xs) xs)) none
 
-  head : (b₀ b₁ b₂ : Bool) (n : ℕ) → cond b₀ 1 (cond b₁ 7 (cond b₂ 8 n)) ≡ 0 → (b₀ ≡ false) × (b₁ ≡ false) × (b₂ ≡ false) × (n ≡ 0)
-  head true b₁ b₂ n e = absurd (omega arith)
-  head false true b₂ n e = absurd (omega arith)
-  head false false true n e = absurd (omega arith)
-  head false false false n e = (refl, refl, refl, e)
+  tests : Clear (readRules own far records xs)
+  tests = clear (readRules own far records xs) tt none
 
-  heads : (badGroup own far records ≡ false) × (ltb (length xs) 6 ≡ false) × (elsewhere own far xs ≡ false) × (firstOf (bodyRules records (headingIn xs) xs) ≡ 0)
-  heads = head (badGroup own far records) (ltb (length xs) 6) (elsewhere own far xs) (firstOf (bodyRules records (headingIn xs) xs)) none
-
-  bodies : Clear (not (listed (headingIn xs))) (unfit (headingIn xs) (length xs)) (isIam (headingIn xs) && eqb (countIn xs) 0) (isIam (headingIn xs) && not (eqb (length xs) (9 + half (countIn xs)))) (isIam (headingIn xs) && badCodes (addressIn xs)) (leb records (cicIn xs))
-  bodies =
-      clear (lit< tt) (lit< tt) (lit< tt) (lit< tt) (lit< tt) (lit< tt)
-      (not (listed (headingIn xs))) (unfit (headingIn xs) (length xs)) (isIam (headingIn xs) && eqb (countIn xs) 0) (isIam (headingIn xs) && not (eqb (length xs) (9 + half (countIn xs)))) (isIam (headingIn xs) && badCodes (addressIn xs)) (leb records (cicIn xs)) (heads .3)
+  bodies : Clear (bodyRules records (headingIn xs) xs)
+  bodies = tests .1 .1 .1
 
   pub six : 6 ≤ length xs
-  six = ltb-false _ _ (heads .1)
+  six = ltb-false _ _ (tests .1 .0)
 
   both : (a b : Bool) → (not a || not b) ≡ false → (a ≡ true) × (b ≡ true)
   both true true e = (refl, refl)
@@ -100,7 +75,7 @@ module _ (own far records : ℕ) (xs : List ℕ) (octets : Octets xs) (ok : fiel
   both false b e = absurd (subst T e tt)
 
   codes : (dpcIn xs ≡ own) × (opcIn xs ≡ far)
-  codes = let e = both (eqb (dpcIn xs) own) (eqb (opcIn xs) far) (heads .2) in (eqb-true _ _ (e .0), eqb-true _ _ (e .1))
+  codes = let e = both (eqb (dpcIn xs) own) (eqb (opcIn xs) far) (tests .1 .1 .0) in (eqb-true _ _ (e .0), eqb-true _ _ (e .1))
 
   -- the sender's label is the one that was read
   label : labelOf far own (cicIn xs) ≡ labelIn xs
@@ -160,13 +135,16 @@ module _ (own far records : ℕ) (xs : List ℕ) (octets : Octets xs) (ok : fiel
   -- an IAM
   module _ (i : isIam (headingIn xs) ≡ true) where
     whole : length xs ≡ 9 + half (countIn xs)
-    whole = eqb-true _ _ (not-false (eqb (length xs) (9 + half (countIn xs))) (subst (λ (b : Bool). (b && not (eqb (length xs) (9 + half (countIn xs)))) ≡ false) i (bodies .t₃)))
+    whole = eqb-true _ _ (not-false (eqb (length xs) (9 + half (countIn xs))) (subst (λ (b : Bool). (b && not (eqb (length xs) (9 + half (countIn xs)))) ≡ false) i (bodies .1 .1 .1 .0)))
 
     nine : 9 ≤ length xs
     nine = omega (arith, whole)
 
     counted : length (addressIn xs) ≡ countIn xs
     counted = let w = whole in length-take-le (countIn xs) (halves (drop 9 xs)) (omega (arith, length-halves (drop 9 xs), length-drop 9 xs))
+
+    pub atMostFifteen : length (addressIn xs) ≤ 15
+    atMostFifteen = let q = counted in let l = octets 7 (omega (arith, nine)) in let h = octets 8 (omega (arith, nine)) in omega arith
 
     addressAgain : take (length (addressIn xs)) (over (addressIn xs) noCodes) ≡ addressIn xs
     addressAgain = take-append-seam (addressIn xs) (drop (length (addressIn xs)) noCodes)
@@ -207,7 +185,7 @@ module _ (own far records : ℕ) (xs : List ℕ) (octets : Octets xs) (ok : fiel
 
       fixed : isIam (headingIn xs) ≡ false → length xs ≡ cond (isAcm (headingIn xs)) 7 6
       fixed e =
-          eqb-true _ _ (not-false (eqb (length xs) (fixedLength (headingIn xs))) (subst (λ (b : Bool). cond b (ltb (length xs) 9) (not (eqb (length xs) (fixedLength (headingIn xs)))) ≡ false) e (bodies .t₁)))
+          eqb-true _ _ (not-false (eqb (length xs) (fixedLength (headingIn xs))) (subst (λ (b : Bool). cond b (ltb (length xs) 9) (not (eqb (length xs) (fixedLength (headingIn xs)))) ≡ false) e (bodies .1 .0)))
           ∙ ap (λ (b : Bool). cond b 9 (cond (isAcm (headingIn xs)) 7 6)) e
 
       byAcm : isIam (headingIn xs) ≡ false → (b : Bool) → isAcm (headingIn xs) ≡ b → length (cond (isAcm (headingIn xs)) acm (take 6 xs)) ≡ length xs
@@ -228,7 +206,7 @@ module _ (own far records : ℕ) (xs : List ℕ) (octets : Octets xs) (ok : fiel
       byIam false e = ap (λ (b : Bool). length (cond b long (cond (isAcm (headingIn xs)) acm (take 6 xs)))) e ∙ byAcm e (isAcm (headingIn xs)) refl
 
   -- the writer takes it
-  circuitFits : cicIn xs ≤ 4095
+  pub circuitFits : cicIn xs ≤ 4095
   circuitFits = let a = at 0 (lit< tt) in let b = at 1 (lit< tt) in let c = at 2 (lit< tt) in let d = at 3 (lit< tt) in let e = at 4 (lit< tt) in omega arith
 
   abbrev again : Said
@@ -262,27 +240,25 @@ module _ (own far records : ℕ) (xs : List ℕ) (octets : Octets xs) (ok : fiel
         three a b c p q r = rw (p, q, r)
 
         a : eqb (length (addressIn xs)) 0 ≡ false
-        a = ap (λ (n : ℕ). eqb n 0) (counted i) ∙ subst (λ (b : Bool). (b && eqb (countIn xs) 0) ≡ false) i (bodies .t₂)
+        a = ap (λ (n : ℕ). eqb n 0) (counted i) ∙ subst (λ (b : Bool). (b && eqb (countIn xs) 0) ≡ false) i (bodies .1 .1 .0)
 
         b : ltb 15 (length (addressIn xs)) ≡ false
-        b = let q = counted i in let l = octets 7 (omega (arith, nine i)) in let h = octets 8 (omega (arith, nine i)) in le-ltb 15 (length (addressIn xs)) (omega arith)
+        b = le-ltb 15 (length (addressIn xs)) (atMostFifteen i)
 
         c : badCodes (addressIn xs) ≡ false
-        c = subst (λ (b : Bool). (b && badCodes (addressIn xs)) ≡ false) i (bodies .t₄)
+        c = subst (λ (b : Bool). (b && badCodes (addressIn xs)) ≡ false) i (bodies .1 .1 .1 .1 .0)
 
   -- so a buffer that has room for the octets gets them, cleared
   module _ (buffer : List ℕ) (room : length xs ≤ length buffer) where
-    noRule : (b₀ b₁ b₂ b₃ b₄ b₅ : Bool) → b₀ ≡ false → b₁ ≡ false → b₂ ≡ false → b₃ ≡ false → b₄ ≡ false → b₅ ≡ false
-        → firstOf (refuse 1 b₀ ∷ refuse 2 b₁ ∷ refuse 9 b₂ ∷ refuse 3 b₃ ∷ refuse 10 b₄ ∷ refuse 11 b₅ ∷ []) ≡ 0
-    noRule b₀ b₁ b₂ b₃ b₄ b₅ e₀ e₁ e₂ e₃ e₄ e₅ = rw (e₀, e₁, e₂, e₃, e₄, e₅)
-
     takes : (m : Said) → m .cic ≡ cicIn xs → listed (m .heading) ≡ true → tooLarge m ≡ false → (isIam (m .heading) && badAddress (m .address)) ≡ false → octetsOf far own m ≡ cleared xs
         → firstOf (writeRules far own records m (length buffer)) ≡ 0
     takes m c l t a o =
         let k = circuitFits in
         let n : length (octetsOf far own m) ≡ length xs = ap length o ∙ length-cleared in
-        noRule (badGroup far own records) (ltb 4095 (m .cic)) (not (listed (m .heading))) (tooLarge m) (isIam (m .heading) && badAddress (m .address)) (ltb (length buffer) (length (octetsOf far own m)))
-        (turned own far records records (heads .0) (recordsFit own far records (heads .0))) (le-ltb 4095 (m .cic) (omega arith)) (ap not l) t a (le-ltb (length buffer) (length (octetsOf far own m)) (omega arith))
+        noneGiven (writeRules far own records m (length buffer)) (
+          turned own far records records (tests .0) (recordsFit own far records (tests .0)),
+          (le-ltb 4095 (m .cic) (omega arith), (ap not l, (t, (a, (le-ltb (length buffer) (length (octetsOf far own m)) (omega arith), tt))))),
+        )
 
     plainIs : isIam (headingIn xs) ≡ false → again ≡ said (cicIn xs) (headingIn xs) (cond (isAcm (headingIn xs)) (sixBitsIn xs) 0) 0 0 []
     plainIs i = ap (λ (b : Bool). saidOf (cond b (iamFields (cicIn xs) (sixBitsIn xs) (indicatorsIn xs) (addressIn xs)) (plainFields (cicIn xs) (headingIn xs) (cond (isAcm (headingIn xs)) (sixBitsIn xs) 0)))) i
@@ -301,7 +277,7 @@ module _ (own far records : ℕ) (xs : List ℕ) (octets : Octets xs) (ok : fiel
             ∙ takes (said (cicIn xs) 0x11 0 (sixBitsIn xs) (indicatorsIn xs) (addressIn xs)) refl refl (iamTaken i) (iamOrdered i) (sym (ap (octetsOf far own) (iamIs i)) ∙ iamAgain i)
         byIam false i =
             ap (λ (m : Said). firstOf (writeRules far own records m (length buffer))) (plainIs i)
-            ∙ takes (said (cicIn xs) (headingIn xs) (cond (isAcm (headingIn xs)) (sixBitsIn xs) 0) 0 0 []) refl (not-false (listed (headingIn xs)) (bodies .t₀)) (plainTaken i) (ap (λ (b : Bool). b && badAddress []) i) (sym (ap (octetsOf far own) (plainIs i)) ∙ plainAgain i)
+            ∙ takes (said (cicIn xs) (headingIn xs) (cond (isAcm (headingIn xs)) (sixBitsIn xs) 0) 0 0 []) refl (not-false (listed (headingIn xs)) (bodies .0)) (plainTaken i) (ap (λ (b : Bool). b && badAddress []) i) (sym (ap (octetsOf far own) (plainIs i)) ∙ plainAgain i)
 
     pub writtenAgain : writing far own records (saidOf (fieldsOf own far records xs)) buffer ≡ putting 0 (cleared xs) buffer
     unfolding writing

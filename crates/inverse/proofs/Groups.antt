@@ -1,36 +1,13 @@
--- What the refusals leave where none is given: the tests of a group and of a message, one by one.
+-- What is left of a group where it is not refused.
 -- Assumes nothing.
-use mathlib.Core.Path.{_≡_, refl, sym}
-use mathlib.Core.Bool.{Bool, true, false, _||_}
-use mathlib.Core.List.{[], _∷_}
+use mathlib.Core.Path.{_≡_, sym}
+use mathlib.Core.Bool.{Bool, false, _||_}
 use Prim.Native.Nat.{ℕ, _<_, _≤_}
 use native.Mathlib.Omega.{arith}
 use borrow.Author.Tests.{ltb-false, eqb-false, ne-eqb}
 use lib.Dec.{eqb, ltb}
 use Rattle.circuit.specs.Groups.{badCode, badGroup}
 use Rattle.circuit.proofs.Groups.{none}
-use Rattle.circuit.specs.Refusals.{refuse, firstOf}
-
--- six tests, none of which holds
-pub record Clear (b₀ b₁ b₂ b₃ b₄ b₅ : Bool) : Type 0 where
-  pub t₀ : b₀ ≡ false
-  pub t₁ : b₁ ≡ false
-  pub t₂ : b₂ ≡ false
-  pub t₃ : b₃ ≡ false
-  pub t₄ : b₄ ≡ false
-  pub t₅ : b₅ ≡ false
-
-module _ {n₀ n₁ n₂ n₃ n₄ n₅ : ℕ} (p₀ : 0 < n₀) (p₁ : 0 < n₁) (p₂ : 0 < n₂) (p₃ : 0 < n₃) (p₄ : 0 < n₄) (p₅ : 0 < n₅) where
-  pub clear : (b₀ b₁ b₂ b₃ b₄ b₅ : Bool)
-      → firstOf (refuse n₀ b₀ ∷ refuse n₁ b₁ ∷ refuse n₂ b₂ ∷ refuse n₃ b₃ ∷ refuse n₄ b₄ ∷ refuse n₅ b₅ ∷ []) ≡ 0
-      → Clear b₀ b₁ b₂ b₃ b₄ b₅
-  clear true b₁ b₂ b₃ b₄ b₅ e = absurd (omega arith)
-  clear false true b₂ b₃ b₄ b₅ e = absurd (omega arith)
-  clear false false true b₃ b₄ b₅ e = absurd (omega arith)
-  clear false false false true b₄ b₅ e = absurd (omega arith)
-  clear false false false false true b₅ e = absurd (omega arith)
-  clear false false false false false true e = absurd (omega arith)
-  clear false false false false false false e = record { t₀ = refl; t₁ = refl; t₂ = refl; t₃ = refl; t₄ = refl; t₅ = refl }
 
 -- a group that is taken has two codes in range
 pub inRange : (own far records : ℕ) → badGroup own far records ≡ false → (own < 16384) × (far < 16384)

@@ -6,21 +6,23 @@ use mathlib.Core.List.{List}
 use Prim.Native.Nat.{ℕ, zero, _+_, _*_, _/_, _%_, _^_, _<_, _≤_}
 use native.Mathlib.Omega.{arith}
 use borrow.Author.Tests.{ltb-false, eqb-true, eqb-false, eq-eqb, not-false}
-use lib.Dec.{T, eqb, ltb, lit<, lit≤}
+use lib.Dec.{T, eqb, ltb, lit≤}
 use lib.ListN.{length, take}
 use Rattle.circuit.specs.Groups.{badGroup}
-use Rattle.circuit.specs.Refusals.{firstOf}
+use Rattle.circuit.specs.Refusals.{firstOf, Clear}
+use Rattle.circuit.proofs.Refusals.{clear}
 use Rattle.formats.specs.Octets.{pairs, halves, badCodes, aboveFifteen}
 use Rattle.words.specs.Octets.{lowFirst, numberOf}
 use Rattle.formats.specs.Messages.{listed, isIam, isAcm, fixedLength, half}
 use Rattle.reader.specs.Places.{labelIn, cicIn, headingIn, sixBitsIn, wordIn, indicatorsIn, countIn, addressIn}
-use Rattle.reader.specs.Reading.{plainFields, iamFields, bodyOf, fieldsOf}
+use Rattle.reader.specs.Reading.{plainFields, iamFields, fieldsOf}
+use Rattle.reader.specs.Way.{bodyOf}
 use Rattle.writer.specs.Writing.{Said, acmLimit, tooLarge, badAddress, labelOf, plainOctets, acmOctets, iamOctets, octetsOf, writeRules}
 use Rattle.writer.proofs.Pairs.{length-pairs, at-most}
 use Rattle.writer.proofs.Tests.{fitting, fitting-iam, few}
 use Rattle.reader.proofs.Bodies.{ours, taken, iam-taken}
-use Rattle.inverse.specs.Numbers.{numberBack, codesBack}
-use Rattle.inverse.specs.Groups.{Clear, clear, inRange}
+use Rattle.inverse.proofs.Numbers.{numberBack, codesBack}
+use Rattle.inverse.proofs.Groups.{inRange}
 use Rattle.inverse.specs.Said.{fieldsSaid}
 
 -- the three fields of a label
@@ -55,22 +57,20 @@ inOrder address e = go (eqb (length address) 0) (ltb 15 (length address)) refl e
 -- a message that the writer takes, and the group in which the other end reads it
 module _ (own far records : ℕ) (m : Said) (room : ℕ) (ok : firstOf (writeRules own far records m room) ≡ 0)
     (theirs : ℕ) (group : badGroup far own theirs ≡ false) (has : m .cic < theirs) where
-  tests : Clear (badGroup own far records) (ltb 4095 (m .cic)) (not (listed (m .heading))) (tooLarge m) (isIam (m .heading) && badAddress (m .address)) (ltb room (length (octetsOf own far m)))
-  tests =
-      clear (lit< tt) (lit< tt) (lit< tt) (lit< tt) (lit< tt) (lit< tt)
-      (badGroup own far records) (ltb 4095 (m .cic)) (not (listed (m .heading))) (tooLarge m) (isIam (m .heading) && badAddress (m .address)) (ltb room (length (octetsOf own far m))) ok
+  tests : Clear (writeRules own far records m room)
+  tests = clear (writeRules own far records m room) tt ok
 
   ownFits : own < 16384
-  ownFits = inRange own far records (tests .t₀) .0
+  ownFits = inRange own far records (tests .0) .0
 
   farFits : far < 16384
-  farFits = inRange own far records (tests .t₀) .1
+  farFits = inRange own far records (tests .0) .1
 
   cicFits : m .cic < 4096
-  cicFits = let h : m .cic ≤ 4095 = ltb-false _ _ (tests .t₁) in omega arith
+  cicFits = let h : m .cic ≤ 4095 = ltb-false _ _ (tests .1 .0) in omega arith
 
   known : listed (m .heading) ≡ true
-  known = not-false (listed (m .heading)) (tests .t₂)
+  known = not-false (listed (m .heading)) (tests .1 .1 .0)
 
   label : ℕ
   label = labelOf own far (m .cic)
@@ -93,7 +93,7 @@ module _ (own far records : ℕ) (m : Said) (room : ℕ) (ok : firstOf (writeRul
   acmBack : m .heading ≡ 0x14 → fieldsOf far own theirs (acmOctets (labelOf own far (m .cic)) (m .acm)) ≡ plainFields (m .cic) (m .heading) (m .acm)
   acmBack h =
       let xs : List ℕ = acmOctets (labelOf own far (m .cic)) (m .acm) in
-      let most : m .acm ≤ 63 = subst (λ (k : ℕ). m .acm ≤ acmLimit k) h (fitting m (tests .t₃) .0) in
+      let most : m .acm ≤ 63 = subst (λ (k : ℕ). m .acm ≤ acmLimit k) h (fitting m (tests .1 .1 .1 .0) .0) in
       let same : m .acm % 64 ≡ m .acm = omega arith in
       ourBody xs labelBack (lit≤ tt)
       ∙ taken theirs 0x14 xs refl refl refl (theirCircuit xs labelBack (lit≤ tt))
@@ -105,7 +105,7 @@ module _ (own far records : ℕ) (m : Said) (room : ℕ) (ok : firstOf (writeRul
       → fieldsOf far own theirs (plainOctets (labelOf own far (m .cic)) (m .heading)) ≡ plainFields (m .cic) (m .heading) (m .acm)
   plainBack i a =
       let xs : List ℕ = plainOctets (labelOf own far (m .cic)) (m .heading) in
-      let none : m .acm ≤ 0 = subst (λ (b : Bool). m .acm ≤ cond b 63 0) a (fitting m (tests .t₃) .0) in
+      let none : m .acm ≤ 0 = subst (λ (b : Bool). m .acm ≤ cond b 63 0) a (fitting m (tests .1 .1 .1 .0) .0) in
       let zero : 0 ≡ m .acm = omega arith in
       let long : fixedLength (m .heading) ≡ 6 = ap (λ (b : Bool). cond b 9 (cond (isAcm (m .heading)) 7 6)) i ∙ ap (λ (b : Bool). cond b 7 6) a in
       ourBody xs labelBack (lit≤ tt)
@@ -116,10 +116,10 @@ module _ (own far records : ℕ) (m : Said) (room : ℕ) (ok : firstOf (writeRul
 
   module _ (h : m .heading ≡ 0x11) where
     ordered : badAddress (m .address) ≡ false
-    ordered = subst (λ (k : ℕ). (isIam k && badAddress (m .address)) ≡ false) h (tests .t₄)
+    ordered = subst (λ (k : ℕ). (isIam k && badAddress (m .address)) ≡ false) h (tests .1 .1 .1 .1 .0)
 
     fields : (m .category ≤ 63) × (m .indicators ≤ 2047) × (aboveFifteen (m .address) ≡ false)
-    fields = fitting-iam m (tests .t₃) h
+    fields = fitting-iam m (tests .1 .1 .1 .0) h
 
     abbrev iamXs : List ℕ
     iamXs = iamOctets (labelOf own far (m .cic)) (m .category) (m .indicators) (m .address)
@@ -186,9 +186,6 @@ module _ (own far records : ℕ) (m : Said) (room : ℕ) (ok : firstOf (writeRul
 pub taking : (own far records : ℕ) (m : Said) (room : ℕ) → firstOf (writeRules own far records m room) ≡ 0
     → (badGroup own far records ≡ false) × (m .cic < 4096) × (tooLarge m ≡ false)
 taking own far records m room ok =
-    let t =
-    clear (lit< tt) (lit< tt) (lit< tt) (lit< tt) (lit< tt) (lit< tt)
-    (badGroup own far records) (ltb 4095 (m .cic)) (not (listed (m .heading))) (tooLarge m) (isIam (m .heading) && badAddress (m .address)) (ltb room (length (octetsOf own far m))) ok
-    in
-    let h : m .cic ≤ 4095 = ltb-false _ _ (t .t₁) in
-    (t .t₀, omega arith, t .t₃)
+    let t = clear (writeRules own far records m room) tt ok in
+    let h : m .cic ≤ 4095 = ltb-false _ _ (t .1 .0) in
+    (t .0, omega arith, t .1 .1 .1 .0)

@@ -17,9 +17,9 @@ use Rattle.formats.specs.Messages.{isIam}
 use Rattle.reader.specs.Reading.{noCodes, plainFields, iamFields, fieldsOf}
 use Rattle.writer.specs.Writing.{Said, said, acmLimit, categoryLimit, indicatorsLimit, tooLarge, octetsOf, writeRules}
 use Rattle.writer.proofs.Tests.{fitting}
-use Rattle.inverse.specs.Groups.{turned}
+use Rattle.inverse.proofs.Groups.{turned}
 use Rattle.inverse.specs.Said.{fieldsSaid, saidOf}
-use Rattle.inverse.specs.ReadBack.{octetsRead, taking}
+use Rattle.inverse.proofs.ReadBack.{octetsRead, taking}
 
 nothing : (address : List ℕ) → length address ≤ 0 → [] ≡ address
 nothing [] h = refl

@@ -12,10 +12,7 @@ use borrow.Author.Tests.{le-ltb}
 use lib.Seq.{getD-drop}
 use Rattle.formats.specs.Octets.{pairs, halves, aboveFifteen}
 use Rattle.words.specs.Octets.{lowFirst, numberOf}
-
--- a list of octets
-abbrev pub Octets : List ℕ → Type 0
-Octets xs = (i : ℕ) → i < length xs → getD xs i 0 < 256
+use Rattle.inverse.specs.Octets.{Octets, withoutFiller}
 
 -- a list of codes of four bits
 abbrev pub Codes : List ℕ → Type 0
@@ -50,14 +47,6 @@ codesBack (a ∷ b ∷ cs) h =
     let e : (a + 16 * b) % 16 ≡ a = omega arith in
     let f : (a + 16 * b) / 16 ≡ b = omega arith in
     rw (e, f) (ap (λ (r : List ℕ). a ∷ b ∷ r) (codesBack cs (λ i m. h (suc (suc i)) (omega arith))))
-
--- so many address signals in octets, with the filler after an odd count cleared
-abbrev pub withoutFiller : ℕ → List ℕ → List ℕ
-withoutFiller zero os = []
-withoutFiller (suc zero) [] = []
-withoutFiller (suc zero) (o ∷ os) = (o % 16) ∷ []
-withoutFiller (suc (suc n)) [] = []
-withoutFiller (suc (suc n)) (o ∷ os) = o ∷ withoutFiller n os
 
 -- the octets of the signals that octets hold are these, without filler
 pub pairsBack : (n : ℕ) (os : List ℕ) → pairs (take n (halves os)) ≡ withoutFiller n os

@@ -1,0 +1,46 @@
+-- Laws of a list of refusals: when a number is given, when none is, and what a rule at the end adds.
+-- Assumes nothing.
+use mathlib.Core.Path.{_≡_, refl, sym, subst}
+use mathlib.Core.Bool.{Bool, true, false}
+use mathlib.Core.List.{List, [], _∷_, _++_}
+use mathlib.Core.Logic.{_↔_, inl, inr, ⊎-elim}
+use Prim.Native.Nat.{ℕ, zero, suc}
+use native.Mathlib.Omega.{arith}
+use lib.Dec.{T}
+use Rattle.circuit.specs.Refusals.{refuse, Rule, firstOf, Given, Clear}
+
+-- A refusal's number is the answer exactly when a test with this number holds and none before it does.
+pub exactly : (rules : List Rule) (n : ℕ) → (firstOf rules ≡ suc n) ↔ Given (suc n) rules
+unfolding Given
+exactly [] n = (λ e. omega arith, λ g. absurd g)
+exactly (refuse k true ∷ rules) n = (λ e. inl (refl, e), λ g. ⊎-elim (λ h. h .1) (λ h. absurd (subst T (h .0) tt)) g)
+exactly (refuse k false ∷ rules) n = (λ e. inr (refl, exactly rules n .0 e), λ g. ⊎-elim (λ h. absurd (subst T (sym (h .0)) tt)) (λ h. exactly rules n .1 (h .1)) g)
+
+-- no rule has the number 0, which stands for none
+abbrev pub numbered : List Rule → Bool
+numbered [] = true
+numbered (refuse zero holds ∷ rules) = false
+numbered (refuse (suc n) holds ∷ rules) = numbered rules
+
+-- No refusal is given exactly when no test holds.
+pub clear : (rules : List Rule) → T (numbered rules) → firstOf rules ≡ 0 → Clear rules
+clear [] t e = tt
+clear (refuse zero holds ∷ rules) t e = absurd t
+clear (refuse (suc n) true ∷ rules) t e = absurd (omega arith)
+clear (refuse (suc n) false ∷ rules) t e = (refl, clear rules t e)
+
+pub noneGiven : (rules : List Rule) → Clear rules → firstOf rules ≡ 0
+noneGiven [] c = refl
+noneGiven (refuse n true ∷ rules) c = absurd (subst T (c .0) tt)
+noneGiven (refuse n false ∷ rules) c = noneGiven rules (c .1)
+
+-- Rules at the end of a list decide exactly where none before them does.
+pub beforeThem : (rules more : List Rule) (n : ℕ) → firstOf rules ≡ suc n → firstOf (rules ++ more) ≡ suc n
+beforeThem [] more n e = absurd (omega arith)
+beforeThem (refuse k true ∷ rules) more n e = e
+beforeThem (refuse k false ∷ rules) more n e = beforeThem rules more n e
+
+pub afterThem : (rules more : List Rule) → Clear rules → firstOf (rules ++ more) ≡ firstOf more
+afterThem [] more c = refl
+afterThem (refuse k true ∷ rules) more c = absurd (subst T (c .0) tt)
+afterThem (refuse k false ∷ rules) more c = afterThem rules more (c .1)

@@ -1,0 +1,116 @@
+-- What a host in C gets from `tup_read` and `tup_write`: a refusal leaves the lent buffer as it was; else the message or its fields stand at the
+-- buffer's start, the fields come back from their octets, and what lies beyond keeps its contents.
+-- Assumes nothing.
+use mathlib.Core.Path.{_≡_, refl, sym, ap, _∙_}
+use mathlib.Core.Bool.{Bool, true, false, cond}
+use mathlib.Core.List.{List}
+use Prim.Native.Nat.{ℕ, zero, suc, _-_, _/_, _%_, _^_, _<_}
+use native.Mathlib.Omega.{arith}
+use lib.Dec.{ltb, lit<}
+use lib.ListN.{length, drop, length-append, length-drop}
+use lib.Seq.{take-at, drop-at, take-append-seam, drop-append-seam}
+use Rattle.circuit.specs.Refusals.{firstOf}
+use Rattle.words.specs.Octets.{over}
+use Rattle.reader.specs.declared.Fields.{Fields}
+use Rattle.reader.specs.Places.{cicIn, headingIn, sixBitsIn, indicatorsIn, addressIn}
+use Rattle.reader.specs.Reading.{noCodes, plainFields, iamFields, fieldsOf}
+use Rattle.formats.specs.Messages.{isIam, isAcm}
+use Rattle.writer.specs.Writing.{Said, octetsOf, writeRules, putting, Outcome, writing}
+use Rattle.link.specs.Entries.{fieldsOctets, Told, telling, readInto, writeFrom}
+use Rattle.inverse.specs.Octets.{Octets}
+use Rattle.inverse.specs.Host.{Holds, Begins}
+use Rattle.inverse.proofs.Numbers.{numberBack}
+use Rattle.inverse.proofs.Refusals.{packs, fromRefusal}
+use Rattle.inverse.proofs.WriteBack.{accepted, circuitFits, atMostFifteen}
+use Rattle.inverse.proofs.Laws.{written}
+
+-- A refusal leaves the buffer as it was.
+pub intoKept : (own far count : ℕ) (xs buffer : List ℕ) → (readInto own far count xs buffer .answer ≡ 0 → ⊥) → readInto own far count xs buffer .buffer ≡ buffer
+unfolding readInto
+intoKept own far count xs buffer = go (fieldsOf own far count xs .refusal)
+  where
+    byRoom : (b : Bool) → (cond {A = Told} b (record { answer = 11; buffer = buffer }) (record { answer = 0; buffer = over (fieldsOctets (fieldsOf own far count xs)) buffer }) .answer ≡ 0 → ⊥)
+        → cond {A = Told} b (record { answer = 11; buffer = buffer }) (record { answer = 0; buffer = over (fieldsOctets (fieldsOf own far count xs)) buffer }) .buffer ≡ buffer
+    byRoom true h = refl
+    byRoom false h = absurd (h refl)
+
+    go : (n : ℕ) → (telling n (fieldsOf own far count xs) buffer .answer ≡ 0 → ⊥) → telling n (fieldsOf own far count xs) buffer .buffer ≡ buffer
+    go zero h = byRoom (ltb (length buffer) 23) h
+    go (suc n) h = refl
+
+pub fromKept : (own far count : ℕ) (m : Said) (buffer : List ℕ) → (writeFrom own far count m buffer .answer % 256 ≡ 0 → ⊥)
+    → (writeFrom own far count m buffer .answer / 256 ≡ 0) × (writeFrom own far count m buffer .buffer ≡ buffer)
+unfolding writing
+fromKept own far count m buffer h =
+    let k = go (firstOf (writeRules own far count m (length buffer))) (λ e. h (fromRefusal own far count m buffer ∙ e)) in
+    (packs own far count m buffer .length ∙ k .0, k .1)
+  where
+    go : (n : ℕ) → (n ≡ 0 → ⊥) → (putting n (octetsOf own far m) buffer .answer .length ≡ 0) × (putting n (octetsOf own far m) buffer .buffer ≡ buffer)
+    go zero h = absurd (h refl)
+    go (suc n) h = (refl, refl)
+
+-- octets at the start of a buffer
+begins : (octets buffer : List ℕ) → Begins octets buffer (over octets buffer)
+begins octets buffer = record { start = take-append-seam octets (drop (length octets) buffer); beyond = drop-append-seam octets (drop (length octets) buffer) }
+
+-- A message that is written stands at the start of the buffer, as many octets as the number says, and those beyond keep their contents.
+pub fromFilled : (own far count : ℕ) (m : Said) (buffer : List ℕ) → writeFrom own far count m buffer .answer % 256 ≡ 0
+    → (writeFrom own far count m buffer .answer / 256 ≡ length (octetsOf own far m)) × Begins (octetsOf own far m) buffer (writeFrom own far count m buffer .buffer)
+fromFilled own far count m buffer e =
+    let ok = sym (packs own far count m buffer .refusal) ∙ e in
+    let w = written own far count m buffer ok in
+    (packs own far count m buffer .length ∙ ap (λ (o : Outcome). o .answer .length) w, rw (ap (λ (o : Outcome). o .buffer) w) (begins (octetsOf own far m) buffer))
+
+-- fields that fit their octets come back from them
+held : (f : Fields) (buffer : List ℕ) → f .circuit .0 < 256 ^ 2 → f .indicators < 256 ^ 2 → length (f .address) ≡ 15
+    → Holds (over (fieldsOctets f) buffer) f × (drop 23 (over (fieldsOctets f) buffer) ≡ drop 23 buffer)
+held f buffer c i n = (
+  record {
+    circuit = numberBack 2 (f .circuit .0) c;
+    heading = refl;
+    acm = refl;
+    category = refl;
+    indicators = numberBack 2 (f .indicators) i;
+    count = refl;
+    address = take-at (f .address) (drop (length (fieldsOctets f)) buffer) 15 n;
+  },
+  drop-at (fieldsOctets f) (drop (length (fieldsOctets f)) buffer) 23 whole ∙ ap (λ (k : ℕ). drop k buffer) whole,
+)
+  where
+    whole : length (fieldsOctets f) ≡ 23
+    whole = omega arith
+
+-- what an accepted message's octets say fits
+module _ (own far records : ℕ) (xs : List ℕ) (octets : Octets xs) (ok : fieldsOf own far records xs .refusal ≡ 0) where
+  abbrev Fits : Fields → Type 0
+  Fits f = (f .circuit .0 < 256 ^ 2) × (f .indicators < 256 ^ 2) × (length (f .address) ≡ 15)
+
+  fitting : Fits (fieldsOf own far records xs)
+  fitting = rw (accepted own far records xs octets ok) (go (isIam (headingIn xs)) refl)
+    where
+      go : (b : Bool) → isIam (headingIn xs) ≡ b
+          → Fits (cond b (iamFields (cicIn xs) (sixBitsIn xs) (indicatorsIn xs) (addressIn xs)) (plainFields (cicIn xs) (headingIn xs) (cond (isAcm (headingIn xs)) (sixBitsIn xs) 0)))
+      go true e =
+          let k = circuitFits own far records xs octets ok in
+          let a = atMostFifteen own far records xs octets ok e in
+          (omega arith, omega arith, length-append (addressIn xs) (drop (length (addressIn xs)) noCodes) ∙ omega (arith, length-drop (length (addressIn xs)) noCodes))
+      go false e = let k = circuitFits own far records xs octets ok in (omega arith, lit< tt, refl)
+
+-- The fields of a message that is read come back from the buffer's first 23 octets, and the octets beyond keep their contents.
+pub intoFilled : (own far count : ℕ) (xs : List ℕ) → Octets xs → (buffer : List ℕ) → readInto own far count xs buffer .answer ≡ 0
+    → Holds (readInto own far count xs buffer .buffer) (fieldsOf own far count xs) × (drop 23 (readInto own far count xs buffer .buffer) ≡ drop 23 buffer)
+unfolding readInto
+intoFilled own far count xs octets buffer e =
+    let f = fieldsOf own far count xs in
+    let t = taken (f .refusal) f buffer e in
+    let k = fitting own far count xs octets (t .0) in
+    rw (t .1) (held f buffer (k .0) (k .1) (k .2))
+  where
+    taken : (n : ℕ) (f : Fields) (buffer : List ℕ) → telling n f buffer .answer ≡ 0 → (n ≡ 0) × (telling n f buffer .buffer ≡ over (fieldsOctets f) buffer)
+    taken zero f buffer e = (refl, byRoom (ltb (length buffer) 23) e)
+      where
+        byRoom : (b : Bool) → cond {A = Told} b (record { answer = 11; buffer = buffer }) (record { answer = 0; buffer = over (fieldsOctets f) buffer }) .answer ≡ 0
+            → cond {A = Told} b (record { answer = 11; buffer = buffer }) (record { answer = 0; buffer = over (fieldsOctets f) buffer }) .buffer ≡ over (fieldsOctets f) buffer
+        byRoom true e = absurd (omega arith)
+        byRoom false e = refl
+    taken (suc n) f buffer e = absurd (omega arith)

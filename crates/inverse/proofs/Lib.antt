@@ -1,0 +1,9 @@
+pub mod Numbers
+pub mod Groups
+pub mod Refusals
+pub mod ReadBack
+pub mod Different
+pub mod WriteBack
+pub mod Laws
+pub mod Host
+pub mod Cases

@@ -1,0 +1,114 @@
+-- The answers of reader and writer, refusal by refusal: each number is answered exactly when its test holds and none before it does, and none
+-- is exactly when no test holds.
+-- Assumes nothing.
+use mathlib.Core.Path.{_≡_, refl, sym, ap, _∙_}
+use mathlib.Core.Bool.{Bool, true, false, cond}
+use mathlib.Core.List.{List, [], _∷_}
+use mathlib.Core.Logic.{_↔_}
+use Prim.Native.Nat.{ℕ, zero, suc, _%_, _≤_}
+use native.Mathlib.Omega.{arith}
+use lib.Dec.{T, ltb, lit≤}
+use lib.ListN.{length}
+use Rattle.circuit.specs.Refusals.{refuse, Rule, firstOf, Given, Clear}
+use Rattle.circuit.proofs.Refusals.{exactly, numbered, clear, noneGiven, beforeThem, afterThem}
+use Rattle.reader.specs.Places.{cicIn, headingIn, sixBitsIn, indicatorsIn, addressIn}
+use Rattle.reader.specs.Reading.{readRules, plainFields, iamFields, fieldsIn, unless, fieldsOf}
+use Rattle.formats.specs.Messages.{isIam, isAcm}
+use Rattle.writer.specs.Writing.{Said, octetsOf, writeRules, putting, writing}
+use Rattle.link.specs.Entries.{fieldsOctets, Told, telling, readInto, writeFrom}
+use Rattle.words.specs.Octets.{over}
+use Rattle.inverse.specs.Host.{intoRules, Packs}
+
+-- the reader's refusal is the first of its rules that holds
+pub readRefusal : (own far records : ℕ) (xs : List ℕ) → fieldsOf own far records xs .refusal ≡ firstOf (readRules own far records xs)
+unfolding fieldsOf
+readRefusal own far records xs = go (firstOf (readRules own far records xs))
+  where
+    none : (b : Bool) → cond b (iamFields (cicIn xs) (sixBitsIn xs) (indicatorsIn xs) (addressIn xs)) (plainFields (cicIn xs) (headingIn xs) (cond (isAcm (headingIn xs)) (sixBitsIn xs) 0)) .refusal ≡ 0
+    none true = refl
+    none false = refl
+
+    go : (n : ℕ) → unless n (fieldsIn (headingIn xs) xs) .refusal ≡ n
+    go zero = none (isIam (headingIn xs))
+    go (suc n) = refl
+
+-- and so is the answer of the one that fills a lent buffer, whose own refusal, 11, is last of all
+pub intoRefusal : (own far count : ℕ) (xs buffer : List ℕ) → readInto own far count xs buffer .answer ≡ firstOf (intoRules own far count xs (length buffer))
+unfolding readInto
+intoRefusal own far count xs buffer = ap (λ (n : ℕ). telling n (fieldsOf own far count xs) buffer .answer) (readRefusal own far count xs) ∙ go (firstOf (readRules own far count xs)) refl
+  where
+    eleven : List Rule
+    eleven = refuse 11 (ltb (length buffer) 23) ∷ []
+
+    byRoom : (b : Bool) → cond {A = Told} b (record { answer = 11; buffer = buffer }) (record { answer = 0; buffer = over (fieldsOctets (fieldsOf own far count xs)) buffer }) .answer ≡ cond b 11 0
+    byRoom true = refl
+    byRoom false = refl
+
+    go : (n : ℕ) → firstOf (readRules own far count xs) ≡ n → telling n (fieldsOf own far count xs) buffer .answer ≡ firstOf (intoRules own far count xs (length buffer))
+    go zero e = byRoom (ltb (length buffer) 23) ∙ sym (afterThem (readRules own far count xs) eleven (clear (readRules own far count xs) tt e))
+    go (suc n) e = sym (beforeThem (readRules own far count xs) eleven n e)
+
+-- the writer's refusal is the first of its rules that holds
+pub refusalOf : (n : ℕ) (xs buffer : List ℕ) → putting n xs buffer .answer .refusal ≡ n
+refusalOf zero xs buffer = refl
+refusalOf (suc n) xs buffer = refl
+
+pub writeRefusal : (own far records : ℕ) (m : Said) (buffer : List ℕ) → writing own far records m buffer .answer .refusal ≡ firstOf (writeRules own far records m (length buffer))
+unfolding writing
+writeRefusal own far records m buffer = refusalOf (firstOf (writeRules own far records m (length buffer))) (octetsOf own far m) buffer
+
+-- no number of a list is above k
+abbrev AtMost : ℕ → List Rule → Type 0
+AtMost k [] = Unit {0}
+AtMost k (refuse n holds ∷ rules) = (n ≤ k) × AtMost k rules
+
+bounded : (k : ℕ) (rules : List Rule) → AtMost k rules → firstOf rules ≤ k
+bounded k [] h = omega arith
+bounded k (refuse n true ∷ rules) h = h .0
+bounded k (refuse n false ∷ rules) h = bounded k rules (h .1)
+
+pub writeNumber : (own far records : ℕ) (m : Said) (buffer : List ℕ) → writing own far records m buffer .answer .refusal ≤ 11
+writeNumber own far records m buffer =
+    rw (writeRefusal own far records m buffer) (bounded 11 (writeRules own far records m (length buffer)) (lit≤ tt, (lit≤ tt, (lit≤ tt, (lit≤ tt, (lit≤ tt, (lit≤ tt, tt)))))))
+
+-- The number that the writer for a host in C answers gives refusal and length back.
+pub packs : (own far count : ℕ) (m : Said) (buffer : List ℕ) → Packs (writeFrom own far count m buffer .answer) (writing own far count m buffer .answer)
+packs own far count m buffer = let h = writeNumber own far count m buffer in record { refusal = omega arith; length = omega arith }
+
+pub fromRefusal : (own far count : ℕ) (m : Said) (buffer : List ℕ) → writeFrom own far count m buffer .answer % 256 ≡ firstOf (writeRules own far count m (length buffer))
+fromRefusal own far count m buffer = packs own far count m buffer .refusal ∙ writeRefusal own far count m buffer
+
+-- an answer that is the first rule that holds
+module _ (rules : List Rule) (answer : ℕ) (is : answer ≡ firstOf rules) where
+  answered : (n : ℕ) → (answer ≡ suc n) ↔ Given (suc n) rules
+  answered n = (λ e. exactly rules n .0 (sym is ∙ e), λ g. is ∙ exactly rules n .1 g)
+
+  accepted : T (numbered rules) → (answer ≡ 0) ↔ Clear rules
+  accepted t = (λ e. clear rules t (sym is ∙ e), λ c. is ∙ noneGiven rules c)
+
+-- Each refusal is answered exactly when its test holds and none before it does: of the reader, of the reader that fills a buffer, of the writer,
+-- and of the number that a host in C gets from the writer.
+pub readGiven : (own far records : ℕ) (xs : List ℕ) (n : ℕ) → (fieldsOf own far records xs .refusal ≡ suc n) ↔ Given (suc n) (readRules own far records xs)
+readGiven own far records xs = answered (readRules own far records xs) (fieldsOf own far records xs .refusal) (readRefusal own far records xs)
+
+pub intoGiven : (own far count : ℕ) (xs buffer : List ℕ) (n : ℕ) → (readInto own far count xs buffer .answer ≡ suc n) ↔ Given (suc n) (intoRules own far count xs (length buffer))
+intoGiven own far count xs buffer = answered (intoRules own far count xs (length buffer)) (readInto own far count xs buffer .answer) (intoRefusal own far count xs buffer)
+
+pub writeGiven : (own far records : ℕ) (m : Said) (buffer : List ℕ) (n : ℕ) → (writing own far records m buffer .answer .refusal ≡ suc n) ↔ Given (suc n) (writeRules own far records m (length buffer))
+writeGiven own far records m buffer = answered (writeRules own far records m (length buffer)) (writing own far records m buffer .answer .refusal) (writeRefusal own far records m buffer)
+
+pub fromGiven : (own far count : ℕ) (m : Said) (buffer : List ℕ) (n : ℕ) → (writeFrom own far count m buffer .answer % 256 ≡ suc n) ↔ Given (suc n) (writeRules own far count m (length buffer))
+fromGiven own far count m buffer = answered (writeRules own far count m (length buffer)) (writeFrom own far count m buffer .answer % 256) (fromRefusal own far count m buffer)
+
+-- And none is answered exactly when no test holds.
+pub readTaken : (own far records : ℕ) (xs : List ℕ) → (fieldsOf own far records xs .refusal ≡ 0) ↔ Clear (readRules own far records xs)
+readTaken own far records xs = accepted (readRules own far records xs) (fieldsOf own far records xs .refusal) (readRefusal own far records xs) tt
+
+pub intoTaken : (own far count : ℕ) (xs buffer : List ℕ) → (readInto own far count xs buffer .answer ≡ 0) ↔ Clear (intoRules own far count xs (length buffer))
+intoTaken own far count xs buffer = accepted (intoRules own far count xs (length buffer)) (readInto own far count xs buffer .answer) (intoRefusal own far count xs buffer) tt
+
+pub writeTaken : (own far records : ℕ) (m : Said) (buffer : List ℕ) → (writing own far records m buffer .answer .refusal ≡ 0) ↔ Clear (writeRules own far records m (length buffer))
+writeTaken own far records m buffer = accepted (writeRules own far records m (length buffer)) (writing own far records m buffer .answer .refusal) (writeRefusal own far records m buffer) tt
+
+pub fromTaken : (own far count : ℕ) (m : Said) (buffer : List ℕ) → (writeFrom own far count m buffer .answer % 256 ≡ 0) ↔ Clear (writeRules own far count m (length buffer))
+fromTaken own far count m buffer = accepted (writeRules own far count m (length buffer)) (writeFrom own far count m buffer .answer % 256) (fromRefusal own far count m buffer) tt
