@@ -1,2 +1,4 @@
-pub mod Contracts
+pub mod Demand1
+pub mod Demand2
 pub mod Requests
+pub mod Contracts

@@ -1,6 +1,6 @@
 -- The requests of document 02 that have landed: T-01, "Remember when a circuit was freed", and T-02, "Choose the circuit for us".
 -- Assumes nothing.
-use mathlib.Core.Path.{_≡_}
+use mathlib.Core.Path.{_≡_, refl, sym, _∙_}
 use mathlib.Core.Bool.{Bool, true, false, not, cond, _&&_, _||_}
 use mathlib.Core.List.{List, [], _∷_}
 use mathlib.Core.Logic.{_↔_}

@@ -1,0 +1,218 @@
+-- Demand 1: "Every table, event and message gets an answer; nothing undefined happens. Public entries refuse bad input themselves, by document 01's
+-- numbers. A refusal sends nothing and leaves the table and every output buffer unchanged."
+-- That there is an answer for all arguments is what the check of the program shows: no public function has a `requires`, and each ends. Here stands
+-- which refusal is given exactly when, and that it changes nothing. `firstOf` is the number of the first rule that holds, 0 for none.
+-- Assumes nothing.
+use mathlib.Core.Path.{_≡_, refl, sym, _∙_}
+use mathlib.Core.Bool.{Bool, true, false, not, _&&_, _||_}
+use mathlib.Core.List.{List, [], _∷_, _++_}
+use mathlib.Core.Logic.{_↔_}
+use Prim.Native.Nat.{ℕ, suc, _+_, _/_, _%_, _<_, _≤_}
+use lib.Dec.{T, eqb, leb, ltb}
+use lib.ListN.{length, getD, take, drop}
+use borrow.Author.Tests.{le-leb, lt-leb, lt-ltb}
+use native.Mathlib.Omega.{arith}
+use Rattle.circuit.specs.declared.Record.{Record}
+use Rattle.circuit.specs.declared.Sends.the-variants.{Nothing}
+use Rattle.circuit.specs.declared.Signal.{Signal}
+use Rattle.circuit.specs.declared.Command.{Command}
+use Rattle.circuit.specs.declared.Timer.{Timer}
+use Rattle.circuit.specs.declared.Event.{Event}
+use Rattle.circuit.specs.declared.Event.the-variants.{Arrives, Ordered, RunsOut}
+use Rattle.circuit.specs.Records.{valid}
+use Rattle.circuit.specs.Rows.{refused}
+use Rattle.circuit.specs.Groups.{badGroup, controls}
+use Rattle.circuit.specs.Refusals.{Rule, refuse, firstOf, Given}
+use Rattle.circuit.proofs.Refusals.{exactly}
+use Rattle.codes.specs.declared.Found.{Found}
+use Rattle.codes.specs.declared.Found.the-variants.{Is, Missing}
+use Rattle.codes.specs.Numbers.{eventOf}
+use Rattle.codes.specs.Back.{numbersOf, OneOctet}
+use Rattle.codes.proofs.Back.{eventBack, numbersBack}
+use Rattle.words.specs.Octets.{numberOf}
+use Rattle.words.specs.Words.{largest}
+use Rattle.step.specs.Step.{stepFound}
+use Rattle.step.specs.Refusals.{allowed, runs, seizesBlocked, foundRules}
+use Rattle.step.specs.Frees.{freesFound}
+use Rattle.step.proofs.Refused.{refusesFound, keepsFound}
+use Rattle.layout.specs.Layout as table
+use Rattle.layout.specs.Layout.{recordsIn, counterIn, stateAt, flagsAt, recordOf, recordAt, allowedAt, tableOctets, idle}
+use Rattle.layout.proofs.Laws.{recordsBack}
+use Rattle.group.specs.Table.{stepIn}
+use Rattle.group.specs.Refusals.{rulesIn}
+use Rattle.group.specs.Runs.{Follows}
+use Rattle.group.proofs.Laws as group
+use Rattle.group.proofs.Valid.{never12}
+use Rattle.formats.specs.Messages.{listed, isIam, half}
+use Rattle.formats.specs.Octets.{badCodes}
+use Rattle.reader.specs.Places.{cicIn, headingIn, countIn, addressIn}
+use Rattle.reader.specs.Reading.{elsewhere, unfit, fieldsOf}
+use Rattle.writer.specs.Writing.{Said, tooLarge, badAddress, octetsOf, writing}
+use Rattle.link.specs.Entries.{readInto, writeFrom}
+use Rattle.inverse.specs.Octets.{Octets}
+use Rattle.inverse.specs.Host.{intoRules}
+use Rattle.inverse.proofs.Refusals.{readRefusal, intoRefusal, writeRefusal, fromRefusal, packs}
+use Rattle.inverse.proofs.Host.{intoKept, fromKept, fromFilled, intoFilled}
+
+-- EVENTS
+
+-- "Order for events: 1, 2, 12, 3, then 5, 4 or 6", and last 13 (document 02, T-01)
+abbrev eventRules : (own far : ℕ) → List ℕ → (cic : ℕ) → Found → List Rule
+eventRules own far table cic event =
+    refuse 1 (badGroup own far (recordsIn (length table)))
+    ∷ refuse 2 (leb (recordsIn (length table)) cic)
+    ∷ refuse 12 (not (allowedAt table cic))
+    ∷ (foundRules (recordAt table cic) event
+    ++ (refuse 13 (freesFound (controls own far cic) (stateAt table cic) event && leb largest (counterIn table)) ∷ []))
+
+pub eventRefused : (own far : ℕ) (table : List ℕ) (cic : ℕ) (event : Found) → stepIn own far table cic event .answer .refusal ≡ firstOf (eventRules own far table cic event)
+eventRefused = group.refusals
+
+-- each number is given exactly when its rule holds and none before it does
+pub eventGiven : (own far : ℕ) (table : List ℕ) (cic : ℕ) (event : Found) (n : ℕ)
+    → (stepIn own far table cic event .answer .refusal ≡ suc n) ↔ Given (suc n) (eventRules own far table cic event)
+eventGiven own far table cic event n =
+    (λ e. exactly (eventRules own far table cic event) n .0 (sym (eventRefused own far table cic event) ∙ e),
+    λ g. eventRefused own far table cic event ∙ exactly (eventRules own far table cic event) n .1 g)
+
+-- an event's own: 3 for numbers that name none; of a signal none; of a command 4 and 5; of a timer 6
+pub noEvent3 : (r : Record) → foundRules r Missing ≡ refuse 3 true ∷ []
+noEvent3 r = refl
+
+pub noSignal : (r : Record) (s : Signal) → foundRules r (Is (Arrives s)) ≡ []
+noSignal r s = refl
+
+pub command4or5 : (r : Record) (k : Command) → foundRules r (Is (Ordered k)) ≡ refuse 4 (seizesBlocked r k) ∷ refuse 5 (not (allowed r k)) ∷ []
+command4or5 r k = refl
+
+pub timer6 : (r : Record) (t : Timer) → foundRules r (Is (RunsOut t)) ≡ refuse 6 (not (runs r t)) ∷ []
+timer6 r t = refl
+
+-- one circuit's step by value: 12 first, then these
+pub recordRefused : (c : Bool) (r : Record) (f : Found) → stepFound c r f .refusal ≡ firstOf (refuse 12 (not (valid r)) ∷ foundRules r f)
+recordRefused = refusesFound
+
+-- 3: "no such signal, command or timer, a detail not listed". Numbers are read as an event exactly if they are its own.
+pub ownNumbersRead : (e : Event) → OneOctet e → eventOf (numbersOf e .0) (numbersOf e .1) (numbersOf e .2) ≡ Is e
+ownNumbersRead = eventBack
+
+pub noOthersRead : (kind code detail : ℕ) (e : Event) → eventOf kind code detail ≡ Is e → numbersOf e ≡ (kind, code, detail)
+noOthersRead = numbersBack
+
+-- 12: "the circuit's record has a state above 12 or flags not allowed". The flags that are allowed, of 0 to 15, by state; above 15 none are.
+abbrev flagsIn : (state : ℕ) → List Bool
+flagsIn s =
+    table.allowed s 0 ∷ table.allowed s 1 ∷ table.allowed s 2 ∷ table.allowed s 3 ∷ table.allowed s 4 ∷ table.allowed s 5 ∷ table.allowed s 6 ∷ table.allowed s 7
+    ∷ table.allowed s 8 ∷ table.allowed s 9 ∷ table.allowed s 10 ∷ table.allowed s 11 ∷ table.allowed s 12 ∷ table.allowed s 13 ∷ table.allowed s 14 ∷ table.allowed s 15 ∷ []
+
+-- 0, 1, 2, 3, 5, 7, 8 and 10
+pub flagsBelow12 : (s : ℕ) → s < 12 → flagsIn s
+    ≡ true ∷ true ∷ true ∷ true ∷ false ∷ true ∷ false ∷ true ∷ true ∷ false ∷ true ∷ false ∷ false ∷ false ∷ false ∷ false ∷ []
+unfolding recordOf
+flagsBelow12 s h = rw (le-leb s 12 (omega arith), lt-ltb s 12 h) refl
+
+-- 0 and 2
+pub flagsIn12 : flagsIn 12 ≡ true ∷ false ∷ true ∷ false ∷ false ∷ false ∷ false ∷ false ∷ false ∷ false ∷ false ∷ false ∷ false ∷ false ∷ false ∷ false ∷ []
+unfolding recordOf
+flagsIn12 = refl
+
+pub noFlagsAbove12 : (s f : ℕ) → 12 < s → table.allowed s f ≡ false
+unfolding recordOf
+noFlagsAbove12 s f h = rw (lt-leb s 12 h) (go (leb f 15))
+  where
+    go : (b : Bool) → (b && false) ≡ false
+    go true = refl
+    go false = refl
+
+pub noFlagsAbove15 : (s f : ℕ) → 15 < f → table.allowed s f ≡ false
+noFlagsAbove15 s f h = rw (lt-leb f 15 h) refl
+
+-- a group that starts idle never answers 12
+pub idleNever12 : {own far : ℕ} {table : List ℕ} (octets : ℕ) → Follows own far (idle octets) table
+    → (cic : ℕ) (event : Found) → stepIn own far table cic event .answer .refusal ≡ 12 → ⊥
+idleNever12 = never12
+
+-- "sends nothing, gives indication 0, changes nothing lent"
+pub refusedKeeps : (own far : ℕ) (table : List ℕ) (cic : ℕ) (event : Found) → (stepIn own far table cic event .answer .refusal ≡ 0 → ⊥)
+    → let s = stepIn own far table cic event in (s .table ≡ table) × (s .answer .sends ≡ Nothing) × (s .answer .ind ≡ 0)
+refusedKeeps own far table cic event n = let k = group.refused own far table cic event n in (k .table, k .sends, k .ind)
+
+pub recordKept : (c : Bool) (r : Record) (f : Found) → (stepFound c r f .refusal ≡ 0 → ⊥) → stepFound c r f ≡ refused (stepFound c r f .refusal) r
+recordKept = keepsFound
+
+-- so many circuits need so many octets, and those hold so many records
+pub tableHolds : (circuits : ℕ) → recordsIn (tableOctets circuits) ≡ circuits
+tableHolds = recordsBack
+
+-- MESSAGES
+
+-- "Reader: 1; under 6 octets, 7; 8; 9; length not fitting the heading (IAM under 9), 7; IAM count zero, 10; IAM length not 9 plus half the count
+-- rounded up, 7; codes, 10; then 2." Last 11, where the room is under 23 octets.
+abbrev readerRules : (own far count : ℕ) → (octets : List ℕ) → (room : ℕ) → List Rule
+readerRules own far count xs room =
+    refuse 1 (badGroup own far count)
+    ∷ refuse 7 (ltb (length xs) 6)
+    ∷ refuse 8 (elsewhere own far xs)
+    ∷ refuse 9 (not (listed (headingIn xs)))
+    ∷ refuse 7 (unfit (headingIn xs) (length xs))
+    ∷ refuse 10 (isIam (headingIn xs) && eqb (countIn xs) 0)
+    ∷ refuse 7 (isIam (headingIn xs) && not (eqb (length xs) (9 + half (countIn xs))))
+    ∷ refuse 10 (isIam (headingIn xs) && badCodes (addressIn xs))
+    ∷ refuse 2 (leb count (cicIn xs))
+    ∷ refuse 11 (ltb room 23)
+    ∷ []
+
+pub readRefused : (own far count : ℕ) (xs buffer : List ℕ) → readInto own far count xs buffer .answer ≡ firstOf (readerRules own far count xs (length buffer))
+readRefused = intoRefusal
+
+pub readGiven : (own far count : ℕ) (xs buffer : List ℕ) (n : ℕ)
+    → (readInto own far count xs buffer .answer ≡ suc n) ↔ Given (suc n) (readerRules own far count xs (length buffer))
+readGiven own far count xs buffer n =
+    (λ e. exactly (readerRules own far count xs (length buffer)) n .0 (sym (readRefused own far count xs buffer) ∙ e),
+    λ g. readRefused own far count xs buffer ∙ exactly (readerRules own far count xs (length buffer)) n .1 g)
+
+-- "Writer: 1, 2, 9, 3, 10, 11."
+abbrev writerRules : (own far count : ℕ) → Said → (room : ℕ) → List Rule
+writerRules own far count m room =
+    refuse 1 (badGroup own far count)
+    ∷ refuse 2 (ltb 4095 (m .cic))
+    ∷ refuse 9 (not (listed (m .heading)))
+    ∷ refuse 3 (tooLarge m)
+    ∷ refuse 10 (isIam (m .heading) && badAddress (m .address))
+    ∷ refuse 11 (ltb room (length (octetsOf own far m)))
+    ∷ []
+
+pub writeRefused : (own far count : ℕ) (m : Said) (buffer : List ℕ) → writeFrom own far count m buffer .answer % 256 ≡ firstOf (writerRules own far count m (length buffer))
+writeRefused = fromRefusal
+
+pub writeGiven : (own far count : ℕ) (m : Said) (buffer : List ℕ) (n : ℕ)
+    → (writeFrom own far count m buffer .answer % 256 ≡ suc n) ↔ Given (suc n) (writerRules own far count m (length buffer))
+writeGiven own far count m buffer n =
+    (λ e. exactly (writerRules own far count m (length buffer)) n .0 (sym (writeRefused own far count m buffer) ∙ e),
+    λ g. writeRefused own far count m buffer ∙ exactly (writerRules own far count m (length buffer)) n .1 g)
+
+-- a refusal leaves the buffer as it was
+pub readKeeps : (own far count : ℕ) (xs buffer : List ℕ) → (readInto own far count xs buffer .answer ≡ 0 → ⊥) → readInto own far count xs buffer .buffer ≡ buffer
+readKeeps = intoKept
+
+pub writeKeeps : (own far count : ℕ) (m : Said) (buffer : List ℕ) → (writeFrom own far count m buffer .answer % 256 ≡ 0 → ⊥)
+    → (writeFrom own far count m buffer .answer / 256 ≡ 0) × (writeFrom own far count m buffer .buffer ≡ buffer)
+writeKeeps = fromKept
+
+-- a message that is read: the first 23 octets of the buffer give its fields back, and the others keep their contents
+pub readTells : (own far count : ℕ) (xs : List ℕ) → Octets xs → (buffer : List ℕ) → readInto own far count xs buffer .answer ≡ 0
+    → let f = fieldsOf own far count xs in
+    let after = readInto own far count xs buffer .buffer in
+    (numberOf (getD after 0 0 ∷ getD after 1 0 ∷ []) ≡ f .circuit .0) × (getD after 2 0 ≡ f .heading) × (getD after 3 0 ≡ f .acm) × (getD after 4 0 ≡ f .category)
+    × (numberOf (getD after 5 0 ∷ getD after 6 0 ∷ []) ≡ f .indicators) × (getD after 7 0 ≡ f .count) × (take 15 (drop 8 after) ≡ f .address) × (drop 23 after ≡ drop 23 buffer)
+readTells own far count xs octets buffer ok =
+    let k = intoFilled own far count xs octets buffer ok in
+    (k .0 .circuit, k .0 .heading, k .0 .acm, k .0 .category, k .0 .indicators, k .0 .count, k .0 .address, k .1)
+
+-- one that is written: the number gives its length back, the buffer begins with its octets, and "octets of the buffer beyond the message keep
+-- their contents"
+pub writeTells : (own far count : ℕ) (m : Said) (buffer : List ℕ) → writeFrom own far count m buffer .answer % 256 ≡ 0
+    → let octets = octetsOf own far m in
+    let after = writeFrom own far count m buffer .buffer in
+    (writeFrom own far count m buffer .answer / 256 ≡ length octets) × (take (length octets) after ≡ octets) × (drop (length octets) after ≡ drop (length octets) buffer)
+writeTells own far count m buffer ok = let k = fromFilled own far count m buffer ok in (k .0, k .1 .start, k .1 .beyond)

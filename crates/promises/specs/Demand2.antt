@@ -1,0 +1,177 @@
+-- Demand 2: "Each event gives exactly the new record, signals and indication of document 01; messages are read and written as Q.723 lays them out."
+-- The tables are definitions: `signals/specs/Table`, `commands/specs/Tables`, and the order of refusals before them `step/specs/Step`. The contracts
+-- of the program say that it answers by them (`Contracts`). Here stands what follows from the definitions, in document 01's words and order.
+-- Assumes nothing.
+use mathlib.Core.Path.{_≡_, refl}
+use mathlib.Core.Bool.{Bool, true, false, not, cond, _&&_}
+use mathlib.Core.List.{List, [], _∷_, _++_, map}
+use Prim.Native.Nat.{ℕ, _+_, _<_, _≤_}
+use lib.Dec.{T, eqb, leb}
+use lib.ListN.{length, getD, take}
+use Rattle.circuit.specs.declared.Record.{Record}
+use Rattle.circuit.specs.declared.Failure.{Failure}
+use Rattle.circuit.specs.declared.Failure.the-variants.{Sec, Cgc, Nnc, Adi, Cfl, Ssb, Unn, Los, Sst}
+use Rattle.circuit.specs.declared.Signal.{Signal}
+use Rattle.circuit.specs.declared.Signal.the-variants.{Iam, Clf, Rlg, Blo, Bla, Rsc}
+use Rattle.circuit.specs.declared.Sends.the-variants.{Nothing, One, Two}
+use Rattle.circuit.specs.declared.Command.the-variants.{Seize, FailCall, Restart}
+use Rattle.circuit.specs.declared.Event.{Event}
+use Rattle.circuit.specs.declared.Event.the-variants.{Arrives, Ordered}
+use Rattle.circuit.specs.declared.Outcome.{Outcome}
+use Rattle.circuit.specs.Records.{rec, plain, valid}
+use Rattle.circuit.specs.Groups.{badGroup, controls}
+use Rattle.circuit.specs.Rows.{first, answered, refused}
+use Rattle.circuit.proofs.Groups.{oneControls}
+use Rattle.codes.specs.declared.Found.{Found}
+use Rattle.words.specs.Octets.{over}
+use Rattle.step.specs.Step.{step, stepFound, isSignal, sent}
+use Rattle.step.proofs.Always.{kept, oneSent}
+use Rattle.step.proofs.Erred.{freedOnlyByRlg, exactlyOneYields, crossingIsSilent, restartForgets}
+use Rattle.step.specs.Frees.{frees}
+use Rattle.layout.specs.Layout.{recordsIn, stateAt, flagsAt, rankAt, recordOf, recordAt}
+use Rattle.group.specs.Table.{stepIn}
+use Rattle.group.proofs.Laws as group
+use Rattle.reader.specs.Reading.{fieldsOf}
+use Rattle.writer.specs.Writing.{Said, said, tooLarge, badAddress, octetsOf, writing}
+use Rattle.inverse.specs.Octets.{Octets, cleared}
+use Rattle.inverse.specs.Said.{fieldsSaid, saidOf, lengthOf}
+use Rattle.inverse.proofs.Laws as messages
+use Rattle.inverse.specs.Cases.{from3, writtenCases, arrivedCases, orderedCases}
+use Rattle.inverse.proofs.Cases.{writtenHold, arrivedHold, orderedHold}
+
+-- THE CASES P1 TO P10
+
+-- what a case gives: an event's outcome, whether an end controls a circuit, a message's octets
+pub data Given : Type 0 where
+  outcome : Outcome → Given
+  controlling : Bool → Given
+  octets : List ℕ → Given
+
+pub record Case : Type 0 where
+  pub number : ℕ
+  pub gives : Given
+  pub wanted : Given
+
+abbrev p : ℕ → Given → Given → Case
+p n a b = record { number = n; gives = a; wanted = b }
+
+-- an event on a record, in both roles, and what it is to answer
+abbrev inBothRoles : ℕ → Record → Event → Outcome → List Case
+inBothRoles n r e o = p n (outcome (step true r e)) (outcome o) ∷ p n (outcome (step false r e)) (outcome o) ∷ []
+
+abbrev withEachFailure : (Failure → List Case) → List Case
+withEachFailure k = k Sec ++ k Cgc ++ k Nnc ++ k Adi ++ k Cfl ++ k Ssb ++ k Unn ++ k Los ++ k Sst
+
+abbrev pub cases : List Case
+cases =
+    -- P1 IAM in 1, controlling: 1, ind. 7
+    (p 1 (outcome (step true (plain 1) (Arrives Iam))) (outcome (answered (plain 1) Nothing 7)) ∷ [])
+    -- P2 the same, not controlling: 6, ind. 9
+    ++ (p 2 (outcome (step false (plain 1) (Arrives Iam))) (outcome (answered (plain 6) Nothing 9)) ∷ [])
+    -- P3 CLF in idle: RLG, idle
+    ++ inBothRoles 3 (plain 0) (Arrives Clf) (answered (plain 0) (One Rlg) 0)
+    -- P4 RLG in 3: discarded
+    ++ inBothRoles 4 (plain 3) (Arrives Rlg) (answered (plain 3) Nothing 7)
+    -- P5 BLO in 1: BLA, CLF, 5
+    ++ inBothRoles 5 (plain 1) (Arrives Blo) (answered (rec 5 false true false false) (Two Bla Clf) 6)
+    -- P6 RSC in 9 with own block: BLO, RLG, idle
+    ++ inBothRoles 6 (rec 9 true false false false) (Arrives Rsc) (answered (rec 0 true false true false) (Two Blo Rlg) 5)
+    -- P7 failing in 8: refused 5
+    ++ withEachFailure (λ f. inBothRoles 7 (plain 8) (Ordered (FailCall f)) (refused 5 (plain 8)))
+    -- P8 seize with far block: 4 in idle, 5 in state 1
+    ++ inBothRoles 8 (rec 0 false true false false) (Ordered Seize) (refused 4 (rec 0 false true false false))
+    ++ inBothRoles 8 (rec 1 false true false false) (Ordered Seize) (refused 5 (rec 1 false true false false))
+    -- P9 codes 2 and 1: the first controls CIC 0, not 1
+    ++ (p 9 (controlling (controls 2 1 0)) (controlling true) ∷ p 9 (controlling (controls 2 1 1)) (controlling false) ∷ [])
+    -- P10 DPC 1, OPC 2, CIC 3, CLF is 01 80 00 30 00 46
+    ++ (p 10 (octets (octetsOf 2 1 (said 3 0x46 0 0 0 []))) (octets (0x01 ∷ 0x80 ∷ 0x00 ∷ 0x30 ∷ 0x00 ∷ 0x46 ∷ [])) ∷ [])
+
+pub claim : map (λ (k : Case). k .gives) cases ≡ map (λ (k : Case). k .wanted) cases
+unfolding step first octetsOf
+claim = refl
+
+-- none is left out
+pub all : map (λ (k : Case). k .number) cases
+    ≡ 1 ∷ 2 ∷ 3 ∷ 3 ∷ 4 ∷ 4 ∷ 5 ∷ 5 ∷ 6 ∷ 6 ∷ 7 ∷ 7 ∷ 7 ∷ 7 ∷ 7 ∷ 7 ∷ 7 ∷ 7 ∷ 7 ∷ 7 ∷ 7 ∷ 7 ∷ 7 ∷ 7 ∷ 7 ∷ 7 ∷ 7 ∷ 7 ∷ 8 ∷ 8 ∷ 8 ∷ 8 ∷ 9 ∷ 9 ∷ 10 ∷ []
+all = refl
+
+-- EVERY EVENT
+
+-- every event takes a record that is allowed to one that is
+pub staysAllowed : (c : Bool) (r : Record) (e : Event) → T (valid r) → T (valid (step c r e .after))
+staysAllowed = kept
+
+-- an accepted command or timer sends exactly one signal
+pub sendsOne : (c : Bool) (r : Record) (e : Event) → T (valid r) → T (not (isSignal e)) → step c r e .refusal ≡ 0 → sent (step c r e .sends) ≡ 1
+sendsOne = oneSent
+
+-- of two different codes exactly one controls, whatever the circuit
+pub oneEndControls : (own far cic : ℕ) → (own ≡ far → ⊥) → controls far own cic ≡ not (controls own far cic)
+oneEndControls = oneControls
+
+-- An event on a circuit of a table: but for 13, what is answered, and what stands at the circuit then, is what one circuit's step says of its
+-- record in our role there. This holds of every circuit number.
+pub isOneCircuitsStep : (own far : ℕ) (table : List ℕ) (cic : ℕ) (event : Found)
+    → badGroup own far (recordsIn (length table)) ≡ false → cic < recordsIn (length table) → flagsAt table cic ≤ 15
+    → (stepIn own far table cic event .answer .refusal ≡ 13 → ⊥)
+    → let o = stepFound (controls own far cic) (recordAt table cic) event in
+    let s = stepIn own far table cic event in
+    (s .answer .refusal ≡ o .refusal) × (recordOf (s .answer .state) (s .answer .flags) ≡ o .after) × (recordAt (s .table) cic ≡ o .after)
+    × (s .answer .sends ≡ o .sends) × (s .answer .ind ≡ o .ind)
+isOneCircuitsStep own far table cic event good has low not13 =
+    let k = group.isStep own far table cic event good has low not13 in (k .refusal, k .shown, k .stored, k .sends, k .ind)
+
+-- and no other record changes, nor the table's length
+pub othersStay : (own far : ℕ) (table : List ℕ) (cic : ℕ) (event : Found) (i : ℕ) → (i ≡ cic → ⊥)
+    → let after = stepIn own far table cic event .table in
+    (stateAt after i ≡ stateAt table i) × (flagsAt after i ≡ flagsAt table i) × (rankAt after i ≡ rankAt table i)
+othersStay own far table cic event i other = let k = group.others own far table cic event i other in (k .state, k .flags, k .rank)
+
+pub lengthStays : (own far : ℕ) (table : List ℕ) (cic : ℕ) (event : Found) → length (stepIn own far table cic event .table) ≡ length table
+lengthStays = group.keepsLength
+
+-- THREE WAYS EARLIER VERSIONS ERRED
+
+-- Idle on sending CLF, not on RLG. An outgoing or releasing record (1 to 5) goes to idle only by RLG in 5, or by CLF not controlling in 1 or 5.
+pub freedByReleaseGuard : (c : Bool) (r : Record) (e : Event) → T (valid r) → T (leb 1 (r .state) && leb (r .state) 5) → step c r e .after .state ≡ 0 → T (frees c (r .state) e)
+freedByReleaseGuard = freedOnlyByRlg
+
+-- Both ends giving way at dual seizure, or the losing end sending CLF. Of two crossing seizures exactly one end gives way (goes to 6), and neither
+-- sends anything.
+pub oneGivesWay : (c : Bool) (a b : Record) → T (valid a) → T (valid b) → a .state ≡ 1 → b .state ≡ 1
+    → eqb (step (not c) b (Arrives Iam) .after .state) 6 ≡ not (eqb (step c a (Arrives Iam) .after .state) 6)
+oneGivesWay = exactlyOneYields
+
+pub noneSends : (c : Bool) (r : Record) → T (valid r) → r .state ≡ 1 → sent (step c r (Arrives Iam) .sends) ≡ 0
+noneSends = crossingIsSilent
+
+-- A restart that keeps the stored state and sends no RSC. From every record that is allowed it answers RSC, state 12 and no flag.
+pub restarts : (c : Bool) (r : Record) → T (valid r) → step c r (Ordered Restart) ≡ answered (plain 12) (One Rsc) 0
+restarts = restartForgets
+
+-- MESSAGES ON THE LINK
+
+-- "Reading what was written, at the end addressed and in a group that has the circuit, gives the message back": the fields that the reader finds
+-- are those of the message that was said.
+pub readBack : (own far records : ℕ) (m : Said) (buffer : List ℕ) → writing own far records m buffer .answer .refusal ≡ 0
+    → (theirs : ℕ) → badGroup far own theirs ≡ false → m .cic < theirs
+    → fieldsOf far own theirs (take (writing own far records m buffer .answer .length) (writing own far records m buffer .buffer)) ≡ fieldsSaid m
+readBack = messages.readingBack
+
+-- "and writing what was read gives the octets with spare bits and filler cleared": in the sender's group, wherever there is room.
+pub writtenBack : (own far records : ℕ) (xs : List ℕ) → Octets xs → fieldsOf own far records xs .refusal ≡ 0
+    → (buffer : List ℕ) → length xs ≤ length buffer
+    → writing far own records (saidOf (fieldsOf own far records xs)) buffer
+    ≡ record { answer = record { refusal = 0; length = length (cleared xs) }; buffer = over (cleared xs) buffer }
+writtenBack = messages.writingBack
+
+-- two different messages are never written as the same octets
+pub differentOctets : (own far records records' : ℕ) (m m' : Said) (buffer buffer' : List ℕ)
+    → writing own far records m buffer .answer .refusal ≡ 0 → writing own far records' m' buffer' .answer .refusal ≡ 0
+    → (m ≡ m' → ⊥) → octetsOf own far m ≡ octetsOf own far m' → ⊥
+differentOctets = messages.different
+
+-- every length that the writer answers fits the heading: 6, an ACM 7, an IAM 9 and half its count of address signals rounded up
+pub lengthsFit : (own far records : ℕ) (m : Said) (buffer : List ℕ) → writing own far records m buffer .answer .refusal ≡ 0
+    → writing own far records m buffer .answer .length ≡ lengthOf m
+lengthsFit = messages.lengthFits
