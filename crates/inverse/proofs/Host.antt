@@ -1,28 +1,34 @@
 -- What a host in C gets from `tup_read` and `tup_write`: a refusal leaves the lent buffer as it was; else the message or its fields stand at the
 -- buffer's start, the fields come back from their octets, and what lies beyond keeps its contents.
 -- Assumes nothing.
-use mathlib.Core.Path.{_≡_, refl, sym, ap, _∙_}
-use mathlib.Core.Bool.{Bool, true, false, cond}
+use mathlib.Core.Path.{_≡_, refl, sym, ap, _∙_, subst}
+use mathlib.Core.Bool.{Bool, true, false, cond, _&&_}
 use mathlib.Core.List.{List}
-use Prim.Native.Nat.{ℕ, zero, suc, _-_, _/_, _%_, _^_, _<_}
+use Prim.Native.Nat.{ℕ, zero, suc, _-_, _/_, _%_, _^_, _<_, _≤_}
 use native.Mathlib.Omega.{arith}
+use borrow.Author.Tests.{ltb-false}
 use lib.Dec.{ltb, lit<}
-use lib.ListN.{length, drop, length-append, length-drop}
+use lib.ListN.{length, take, drop, length-append, length-drop}
 use lib.Seq.{take-at, drop-at, take-append-seam, drop-append-seam}
-use Rattle.circuit.specs.Refusals.{firstOf}
+use Rattle.circuit.specs.Groups.{badGroup}
+use Rattle.circuit.specs.Refusals.{firstOf, Clear}
+use Rattle.circuit.proofs.Refusals.{clear}
 use Rattle.words.specs.Octets.{over}
 use Rattle.reader.specs.declared.Fields.{Fields}
 use Rattle.reader.specs.Places.{cicIn, headingIn, sixBitsIn, indicatorsIn, addressIn}
 use Rattle.reader.specs.Reading.{noCodes, plainFields, iamFields, fieldsOf}
 use Rattle.formats.specs.Messages.{isIam, isAcm}
-use Rattle.writer.specs.Writing.{Said, octetsOf, writeRules, putting, Outcome, writing}
+use Rattle.writer.specs.Writing.{Said, badAddress, octetsOf, writeRules, putting, Outcome, writing}
+use Rattle.writer.proofs.Tests.{fitting, few}
 use Rattle.link.specs.Entries.{fieldsOctets, Told, telling, readInto, writeFrom}
+use Rattle.link.proofs.Entries.{fills}
 use Rattle.inverse.specs.Octets.{Octets}
+use Rattle.inverse.specs.Said.{fieldsSaid}
 use Rattle.inverse.specs.Host.{Holds, Begins}
 use Rattle.inverse.proofs.Numbers.{numberBack}
-use Rattle.inverse.proofs.Refusals.{packs, fromRefusal}
+use Rattle.inverse.proofs.Refusals.{packs, writeRefusal, fromRefusal}
 use Rattle.inverse.proofs.WriteBack.{accepted, circuitFits, atMostFifteen}
-use Rattle.inverse.proofs.Laws.{written}
+use Rattle.inverse.proofs.Laws.{written, readingBack}
 
 -- A refusal leaves the buffer as it was.
 pub intoKept : (own far count : ℕ) (xs buffer : List ℕ) → (readInto own far count xs buffer .answer ≡ 0 → ⊥) → readInto own far count xs buffer .buffer ≡ buffer
@@ -80,21 +86,41 @@ held f buffer c i n = (
     whole : length (fieldsOctets f) ≡ 23
     whole = omega arith
 
--- what an accepted message's octets say fits
-module _ (own far records : ℕ) (xs : List ℕ) (octets : Octets xs) (ok : fieldsOf own far records xs .refusal ≡ 0) where
-  abbrev Fits : Fields → Type 0
-  Fits f = (f .circuit .0 < 256 ^ 2) × (f .indicators < 256 ^ 2) × (length (f .address) ≡ 15)
+-- fields that do
+abbrev Fits : Fields → Type 0
+Fits f = (f .circuit .0 < 256 ^ 2) × (f .indicators < 256 ^ 2) × (length (f .address) ≡ 15)
 
-  fitting : Fits (fieldsOf own far records xs)
-  fitting = rw (accepted own far records xs octets ok) (go (isIam (headingIn xs)) refl)
-    where
-      go : (b : Bool) → isIam (headingIn xs) ≡ b
-          → Fits (cond b (iamFields (cicIn xs) (sixBitsIn xs) (indicatorsIn xs) (addressIn xs)) (plainFields (cicIn xs) (headingIn xs) (cond (isAcm (headingIn xs)) (sixBitsIn xs) 0)))
-      go true e =
-          let k = circuitFits own far records xs octets ok in
-          let a = atMostFifteen own far records xs octets ok e in
-          (omega arith, omega arith, length-append (addressIn xs) (drop (length (addressIn xs)) noCodes) ∙ omega (arith, length-drop (length (addressIn xs)) noCodes))
-      go false e = let k = circuitFits own far records xs octets ok in (omega arith, lit< tt, refl)
+fifteen : (address : List ℕ) → length address ≤ 15 → length (over address noCodes) ≡ 15
+fifteen address h = length-append address (drop (length address) noCodes) ∙ omega (arith, length-drop (length address) noCodes)
+
+-- those of octets that are accepted
+readFits : (own far records : ℕ) (xs : List ℕ) → Octets xs → fieldsOf own far records xs .refusal ≡ 0 → Fits (fieldsOf own far records xs)
+readFits own far records xs octets ok = rw (accepted own far records xs octets ok) (go (isIam (headingIn xs)) refl)
+  where
+    go : (b : Bool) → isIam (headingIn xs) ≡ b
+        → Fits (cond b (iamFields (cicIn xs) (sixBitsIn xs) (indicatorsIn xs) (addressIn xs)) (plainFields (cicIn xs) (headingIn xs) (cond (isAcm (headingIn xs)) (sixBitsIn xs) 0)))
+    go true e = let k = circuitFits own far records xs octets ok in (omega arith, omega arith, fifteen (addressIn xs) (atMostFifteen own far records xs octets ok e))
+    go false e = let k = circuitFits own far records xs octets ok in (omega arith, lit< tt, refl)
+
+-- those of a message that the writer takes
+saidFits : (own far records : ℕ) (m : Said) (room : ℕ) → firstOf (writeRules own far records m room) ≡ 0 → Fits (fieldsSaid m)
+saidFits own far records m room ok = go (isIam (m .heading)) refl
+  where
+    tests : Clear (writeRules own far records m room)
+    tests = clear (writeRules own far records m room) tt ok
+
+    atMost : isIam (m .heading) ≡ true → length (m .address) ≤ 15
+    atMost i = few (m .address) (subst (λ (b : Bool). (b && badAddress (m .address)) ≡ false) i (tests .1 .1 .1 .1 .0))
+
+    low : isIam (m .heading) ≡ true → m .indicators ≤ 2047
+    low i = subst (λ (b : Bool). m .indicators ≤ cond b 2047 0) i (fitting m (tests .1 .1 .1 .0) .2)
+
+    circuit : m .cic ≤ 4095
+    circuit = ltb-false _ _ (tests .1 .0)
+
+    go : (b : Bool) → isIam (m .heading) ≡ b → Fits (cond b (iamFields (m .cic) (m .category) (m .indicators) (m .address)) (plainFields (m .cic) (m .heading) (m .acm)))
+    go true i = let k = circuit in let l = low i in (omega arith, omega arith, fifteen (m .address) (atMost i))
+    go false i = let k = circuit in (omega arith, lit< tt, refl)
 
 -- The fields of a message that is read come back from the buffer's first 23 octets, and the octets beyond keep their contents.
 pub intoFilled : (own far count : ℕ) (xs : List ℕ) → Octets xs → (buffer : List ℕ) → readInto own far count xs buffer .answer ≡ 0
@@ -103,7 +129,7 @@ unfolding readInto
 intoFilled own far count xs octets buffer e =
     let f = fieldsOf own far count xs in
     let t = taken (f .refusal) f buffer e in
-    let k = fitting own far count xs octets (t .0) in
+    let k = readFits own far count xs octets (t .0) in
     rw (t .1) (held f buffer (k .0) (k .1) (k .2))
   where
     taken : (n : ℕ) (f : Fields) (buffer : List ℕ) → telling n f buffer .answer ≡ 0 → (n ≡ 0) × (telling n f buffer .buffer ≡ over (fieldsOctets f) buffer)
@@ -114,3 +140,20 @@ intoFilled own far count xs octets buffer e =
         byRoom true e = absurd (omega arith)
         byRoom false e = refl
     taken (suc n) f buffer e = absurd (omega arith)
+
+-- A message that one host wrote, the other host, in its own group that has the circuit and with room for 23 octets, reads as it was said.
+pub carried : (own far count : ℕ) (m : Said) (buffer : List ℕ) → writeFrom own far count m buffer .answer % 256 ≡ 0
+    → (theirs : ℕ) → badGroup far own theirs ≡ false → m .cic < theirs → (out : List ℕ) → 23 ≤ length out
+    → (readInto far own theirs (take (writeFrom own far count m buffer .answer / 256) (writeFrom own far count m buffer .buffer)) out .answer ≡ 0)
+    × Holds (readInto far own theirs (take (writeFrom own far count m buffer .answer / 256) (writeFrom own far count m buffer .buffer)) out .buffer) (fieldsSaid m)
+carried own far count m buffer e theirs group has out room =
+    let ok = sym (packs own far count m buffer .refusal) ∙ e in
+    let xs = take (writeFrom own far count m buffer .answer / 256) (writeFrom own far count m buffer .buffer) in
+    let long = ap (λ (n : ℕ). fieldsOf far own theirs (take n (writeFrom own far count m buffer .buffer))) (packs own far count m buffer .length) in
+    let said = long ∙ readingBack own far count m buffer ok theirs group has in
+    let k = saidFits own far count m (length buffer) (sym (writeRefusal own far count m buffer) ∙ ok) in
+    rw (fills far own theirs xs out (fieldsSaid m) (sym said) (none (isIam (m .heading))) room) (refl, held (fieldsSaid m) out (k .0) (k .1) (k .2) .0)
+  where
+    none : (b : Bool) → cond b (iamFields (m .cic) (m .category) (m .indicators) (m .address)) (plainFields (m .cic) (m .heading) (m .acm)) .refusal ≡ 0
+    none true = refl
+    none false = refl
