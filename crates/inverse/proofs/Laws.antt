@@ -8,14 +8,11 @@ use native.Mathlib.Omega.{arith}
 use lib.ListN.{length, take, drop}
 use lib.Seq.{take-append-seam}
 use Rattle.circuit.specs.Groups.{badGroup}
-use Rattle.reader.specs.declared.Reading.{Reading}
 use Rattle.circuit.specs.Refusals.{firstOf}
 use Rattle.words.specs.Octets.{over}
 use Rattle.formats.specs.Messages.{isIam, isAcm, half}
-use Rattle.writer.specs.declared.Written.{Written}
-use Rattle.reader.specs.Reading.{fieldsOf, reading}
+use Rattle.reader.specs.Reading.{fieldsOf}
 use Rattle.writer.specs.Writing.{Said, labelOf, octetsOf, writeRules, putting, Outcome, writing, iamOctets, acmOctets, plainOctets}
-use Rattle.link.specs.Entries.{readInto, writeFrom}
 use Rattle.writer.proofs.Pairs.{length-pairs}
 use Rattle.inverse.specs.Octets.{Octets, cleared}
 use Rattle.inverse.specs.Said.{fieldsSaid, saidOf, lengthOf}
@@ -68,22 +65,3 @@ octetsLong own far m = go (isIam (m .heading)) (isAcm (m .heading))
 pub lengthFits : (own far records : ℕ) (m : Said) (buffer : List ℕ) → writing own far records m buffer .answer .refusal ≡ 0
     → writing own far records m buffer .answer .length ≡ lengthOf m
 lengthFits own far records m buffer ok = ap (λ (o : Outcome). o .answer .length) (written own far records m buffer ok) ∙ octetsLong own far m
-
--- Any two answers that a contract allows are equal, and so are any two buffers after it.
-pub readOnce : (own far records : ℕ) (xs : List ℕ) {r s : Reading} → r ≡ reading own far records xs → s ≡ reading own far records xs → r ≡ s
-readOnce own far records xs p q = p ∙ sym q
-
-pub writeOnce : (own far records : ℕ) (m : Said) (buffer : List ℕ) {r s : Written} {a b : List ℕ}
-    → r ≡ writing own far records m buffer .answer → s ≡ writing own far records m buffer .answer
-    → a ≡ writing own far records m buffer .buffer → b ≡ writing own far records m buffer .buffer → (r ≡ s) × (a ≡ b)
-writeOnce own far records m buffer p q v w = (p ∙ sym q, v ∙ sym w)
-
-pub readIntoOnce : (own far count : ℕ) (xs buffer : List ℕ) {r s : ℕ} {a b : List ℕ}
-    → r ≡ readInto own far count xs buffer .answer → s ≡ readInto own far count xs buffer .answer
-    → a ≡ readInto own far count xs buffer .buffer → b ≡ readInto own far count xs buffer .buffer → (r ≡ s) × (a ≡ b)
-readIntoOnce own far count xs buffer p q v w = (p ∙ sym q, v ∙ sym w)
-
-pub writeFromOnce : (own far count : ℕ) (m : Said) (buffer : List ℕ) {r s : ℕ} {a b : List ℕ}
-    → r ≡ writeFrom own far count m buffer .answer → s ≡ writeFrom own far count m buffer .answer
-    → a ≡ writeFrom own far count m buffer .buffer → b ≡ writeFrom own far count m buffer .buffer → (r ≡ s) × (a ≡ b)
-writeFromOnce own far count m buffer p q v w = (p ∙ sym q, v ∙ sym w)
