@@ -55,10 +55,9 @@ marksEqual false true t = absurd t
 marksEqual false false t = refl
 
 -- RLG is heard only in 5 and 12
-pub heardRlg : (s : ℕ) → T (not (unheard s Rlg)) → (s ≡ 5) ⊎ (s ≡ 12)
-heardRlg s t = go (eqb s 5) (eqb s 12) (eqb→eq s 5) (eqb→eq s 12) t
-  where
-    go : (a b : Bool) → (T a → s ≡ 5) → (T b → s ≡ 12) → T (not (not (a || b))) → (s ≡ 5) ⊎ (s ≡ 12)
-    go true b f g t = inl (f tt)
-    go false true f g t = inr (g tt)
-    go false false f g t = absurd t
+pub unheardRlg : (s : ℕ) → (s ≡ 5 → ⊥) → (s ≡ 12 → ⊥) → T (unheard s Rlg)
+unheardRlg s h k = rw (ne-eqb s 5 h, ne-eqb s 12 k) tt
+
+pub notBoth : (b : Bool) → T b → T (not b) → ⊥
+notBoth true t n = n
+notBoth false t n = t

@@ -5,7 +5,7 @@
 -- be x and y; a and b tell whether the first and the second control the circuit. First the rules by which they can, then what is promised of them.
 -- Assumes nothing.
 use mathlib.Core.Path.{_≡_, refl, subst}
-use mathlib.Core.Bool.{Bool, true, false, not}
+use mathlib.Core.Bool.{Bool, true, false}
 use mathlib.Core.List.{List, [], _∷_, _++_}
 use mathlib.Core.Logic.{_⊎_}
 use Prim.Native.Nat.{ℕ}
@@ -32,7 +32,7 @@ use Rattle.ends.specs.Ends.{End, Reached, Reached.start, Reached.atFirst, When,
 use Rattle.ends.proofs.Standing.{mirror}
 use Rattle.ends.proofs.Claim.{twoEndsAgree}
 use Rattle.ends.proofs.Heard.{someNeverArrive}
-use Rattle.ends.proofs.Plain.{atStagesEitherWay, neitherAwaits, marksEqual, heardRlg}
+use Rattle.ends.proofs.Plain.{atStagesEitherWay, neitherAwaits, marksEqual, unheardRlg, notBoth}
 
 -- THE RULES
 
@@ -138,44 +138,30 @@ endsAgree own far cic different r t q r5 r12 t5 t12 = (
     k : Agree (end r []) (end t [])
     k = twoEndsAgree own far cic different (end r []) (end t []) q refl refl (neitherAwaits (r .state) r5 r12) (neitherAwaits (t .state) t5 t12)
 
--- Signals that never arrive: RLG but in 5 and 12; ANC, ANN, CBK, RAN in 1; CLF in 2, 3 and 4. `CanArrive s p`: s is none of these in state p.
-abbrev pub CanArrive : Signal → ℕ → Type 0
-CanArrive Rlg p = (p ≡ 5) ⊎ (p ≡ 12)
-CanArrive Anc p = p ≡ 1 → ⊥
-CanArrive Ann p = p ≡ 1 → ⊥
-CanArrive Cbk p = p ≡ 1 → ⊥
-CanArrive Ran p = p ≡ 1 → ⊥
-CanArrive Clf p = (p ≡ 2 → ⊥) × (p ≡ 3 → ⊥) × (p ≡ 4 → ⊥)
-CanArrive Iam p = ⊤
-CanArrive (Acm octet) p = ⊤
-CanArrive (Fail f) p = ⊤
-CanArrive Blo p = ⊤
-CanArrive Bla p = ⊤
-CanArrive Ubl p = ⊤
-CanArrive Uba p = ⊤
-CanArrive Rsc p = ⊤
+-- signals that never arrive, and the states in which they do not: RLG but in 5 and 12; ANC, ANN, CBK, RAN in 1; CLF in 2, 3 and 4
+pub data Never : Signal → (state : ℕ) → Type 0 where
+  releaseGuard : {p : ℕ} → (p ≡ 5 → ⊥) → (p ≡ 12 → ⊥) → Never Rlg p
+  answerCharged : Never Anc 1
+  answerFree : Never Ann 1
+  clearBack : Never Cbk 1
+  reAnswer : Never Ran 1
+  clearForward2 : Never Clf 2
+  clearForward3 : Never Clf 3
+  clearForward4 : Never Clf 4
 
-canArrive : (p : ℕ) (s : Signal) → T (not (unheard p s)) → CanArrive s p
-canArrive p Rlg h = heardRlg p h
-canArrive p Anc h = λ e. subst (λ (p : ℕ). T (not (unheard p Anc))) e h
-canArrive p Ann h = λ e. subst (λ (p : ℕ). T (not (unheard p Ann))) e h
-canArrive p Cbk h = λ e. subst (λ (p : ℕ). T (not (unheard p Cbk))) e h
-canArrive p Ran h = λ e. subst (λ (p : ℕ). T (not (unheard p Ran))) e h
-canArrive p Clf h = (λ e. k e, λ e. k e, λ e. k e)
-  where
-    k : {n : ℕ} → p ≡ n → T (not (unheard n Clf))
-    k e = subst (λ (p : ℕ). T (not (unheard p Clf))) e h
-canArrive p Iam h = tt
-canArrive p (Acm octet) h = tt
-canArrive p (Fail f) h = tt
-canArrive p Blo h = tt
-canArrive p Bla h = tt
-canArrive p Ubl h = tt
-canArrive p Uba h = tt
-canArrive p Rsc h = tt
+isUnheard : {s : Signal} {p : ℕ} → Never s p → T (unheard p s)
+isUnheard (releaseGuard {p} h k) = unheardRlg p h k
+isUnheard answerCharged = tt
+isUnheard answerFree = tt
+isUnheard clearBack = tt
+isUnheard reAnswer = tt
+isUnheard clearForward2 = tt
+isUnheard clearForward3 = tt
+isUnheard clearForward4 = tt
 
-pub neverArrive : (own far cic : ℕ) → (own ≡ far → ⊥)
+-- no such signal is the next to arrive
+pub neverNext : (own far cic : ℕ) → (own ≡ far → ⊥)
     → (r : Record) (s : Signal) (w : List Signal) (y : End) → Reached (controls own far cic) (controls far own cic) (end r (s ∷ w)) y
-    → CanArrive s (r .state)
+    → Never s (r .state) → ⊥
 unfolding ClaimUnheard
-neverArrive own far cic different r s w y q = canArrive (r .state) s (someNeverArrive own far cic different (end r (s ∷ w)) y q .0 s w refl)
+neverNext own far cic different r s w y q n = notBoth (unheard (r .state) s) (isUnheard n) (someNeverArrive own far cic different (end r (s ∷ w)) y q .0 s w refl)
