@@ -180,6 +180,12 @@ different own far records good same = go (badCode own) (badCode far) (eqb own fa
     go false false true t e f = true≢false f
     go false false false t e f = false≢true t
 
+-- the two exchanges change places
+pub mirrorTables : {own far cic m n : ℕ} {x y : Exchange} → Reached own far cic m n x y → Reached far own cic n m y x
+mirrorTables start = start
+mirrorTables (atFirst r h not13) = atSecond (mirrorTables r) h not13
+mirrorTables (atSecond r h not13) = atFirst (mirrorTables r) h not13
+
 pub tablesAgree : Claim
 unfolding Claim ends.Claim
 tablesAgree own far cic m n good good' h h' x y r ex ey wx wy =

@@ -5,11 +5,12 @@
 -- be x and y; a and b tell whether the first and the second control the circuit. First the rules by which they can, then what is promised of them.
 -- Assumes nothing.
 use mathlib.Core.Path.{_≡_, refl, subst}
-use mathlib.Core.Bool.{Bool, true, false}
+use mathlib.Core.Bool.{Bool, true, false, cond}
 use mathlib.Core.List.{List, [], _∷_, _++_}
 use mathlib.Core.Logic.{_⊎_}
-use Prim.Native.Nat.{ℕ}
+use Prim.Native.Nat.{ℕ, _<_}
 use lib.Dec.{T}
+use borrow.Author.Tests.{ne-eqb}
 use Rattle.circuit.specs.declared.Record.{Record}
 use Rattle.circuit.specs.declared.Failure.{Failure}
 use Rattle.circuit.specs.declared.AddressType.{AddressType}
@@ -24,15 +25,20 @@ use Rattle.circuit.specs.declared.Event.the-variants.{Arrives, Ordered, RunsOut
 use Rattle.circuit.specs.declared.Sends.{Sends}
 use Rattle.circuit.specs.declared.Sends.the-variants.{Nothing, One, Two}
 use Rattle.circuit.specs.Records.{rec, plain}
-use Rattle.circuit.specs.Groups.{controls}
+use Rattle.circuit.specs.Groups.{badGroup, controls}
 use Rattle.codes.specs.declared.Found.{Found}
 use Rattle.codes.specs.declared.Found.the-variants.{Is, Missing}
 use Rattle.step.specs.Step.{stepFound}
-use Rattle.ends.specs.Ends.{End, Reached, Reached.start, Reached.atFirst, When, When.anyTime, When.inSilence, When.losingAll, When.never, whenGiven, Happening.arrives, Happening.host, inOrder, does, given, unheard, Agree, Claim, ClaimUnheard}
+use Rattle.layout.specs.Layout.{recordsIn, recordAt, idle as zeros}
+use Rattle.group.specs.Table.{stepIn}
+use Rattle.ends.specs.Ends.{End, Pair, Reached, Reached.start, Reached.atFirst, When, When.anyTime, When.inSilence, When.losingAll, When.never, whenGiven, Happening.arrives, Happening.host, inOrder, does, given, unheard, Agree, Claim, ClaimUnheard}
 use Rattle.ends.proofs.Standing.{mirror}
 use Rattle.ends.proofs.Claim.{twoEndsAgree}
 use Rattle.ends.proofs.Heard.{someNeverArrive}
 use Rattle.ends.proofs.Plain.{atStagesEitherWay, neitherAwaits, marksEqual, unheardRlg, notBoth}
+use Rattle.exchanges.specs.Tables.{Exchange}
+use Rattle.exchanges.specs.Tables as tables
+use Rattle.exchanges.proofs.Tables.{mirrorTables, tablesAgree}
 
 -- THE RULES
 
@@ -75,6 +81,9 @@ hostTimes t free charging failure = refl
 pub signalTimes : (s : Signal) → whenGiven (Is (Arrives s)) ≡ never
 signalTimes s = refl
 
+abbrev Come : (a b : Bool) → Pair → Type 0
+Come a b p = Reached a b (p .0) (p .1)
+
 -- What happens at the first end. What its program does is `stepFound`, the definition that the contract of the program's step cites; the second end's
 -- record and queue are t and v.
 module _ {a b : Bool} where
@@ -93,19 +102,19 @@ module _ {a b : Bool} where
     pub atAnyTime : (e : Found) → whenGiven e ≡ anyTime → Reached a b (end r w) (end t v)
         → Reached a b (end (stepFound a r e .after) w) (end t (v ++ inOrder (stepFound a r e .sends)))
     unfolding does
-    atAnyTime e k q = subst (λ (h : When). Reached a b (given h a e (end r w) (end t v) .0) (given h a e (end r w) (end t v) .1)) k (atFirst q (host e))
+    atAnyTime e k q = subst (λ (h : When). Come a b (given h a e (end r w) (end t v))) k (atFirst q (host e))
 
     -- a restart: all that was on its way is lost, in both directions
     pub atRestart : (e : Found) → whenGiven e ≡ losingAll → Reached a b (end r w) (end t v)
         → Reached a b (end (stepFound a r e .after) []) (end t (inOrder (stepFound a r e .sends)))
     unfolding does
-    atRestart e k q = subst (λ (h : When). Reached a b (given h a e (end r w) (end t v) .0) (given h a e (end r w) (end t v) .1)) k (atFirst q (host e))
+    atRestart e k q = subst (λ (h : When). Come a b (given h a e (end r w) (end t v))) k (atFirst q (host e))
 
   -- in silence
   pub atSilence : {r t : Record} → (e : Found) → whenGiven e ≡ inSilence → Reached a b (end r []) (end t [])
       → Reached a b (end (stepFound a r e .after) []) (end t (inOrder (stepFound a r e .sends)))
   unfolding does
-  atSilence {r} {t} e k q = subst (λ (h : When). Reached a b (given h a e (end r []) (end t []) .0) (given h a e (end r []) (end t []) .1)) k (atFirst q (host e))
+  atSilence {r} {t} e k q = subst (λ (h : When). Come a b (given h a e (end r []) (end t []))) k (atFirst q (host e))
 
   -- the same happens at the second end: first and second may change places
   pub eitherFirst : {x y : End} → Reached a b x y → Reached b a y x
@@ -122,6 +131,14 @@ pub data SameStage : (outgoing incoming : ℕ) → Type 0 where
   answered : SameStage 3 9
   cleared : SameStage 4 10
 
+agreed : {r t : Record} {w v : List Signal} → Agree (end r w) (end t v)
+    → (SameStage (r .state) (t .state) ⊎ SameStage (t .state) (r .state)) × (t .far ≡ r .own) × (r .far ≡ t .own)
+agreed {r} {t} k = (
+    atStagesEitherWay SameStage idle seized complete free answered cleared (r .state) (t .state) (k .call),
+    marksEqual (t .far) (r .own) (k .blockOfFirst),
+    marksEqual (r .far) (t .own) (k .blockOfSecond),
+  )
+
 -- For every circuit number and every two different point codes: whenever nothing is on its way and neither end is in 5 (awaiting release-guard) or
 -- 12 (awaiting reset), both are idle or at the same stage of one call, and each far-block mark equals the other end's own block.
 pub endsAgree : (own far cic : ℕ) → (own ≡ far → ⊥)
@@ -129,14 +146,8 @@ pub endsAgree : (own far cic : ℕ) → (own ≡ far → ⊥)
     → (r .state ≡ 5 → ⊥) → (r .state ≡ 12 → ⊥) → (t .state ≡ 5 → ⊥) → (t .state ≡ 12 → ⊥)
     → (SameStage (r .state) (t .state) ⊎ SameStage (t .state) (r .state)) × (t .far ≡ r .own) × (r .far ≡ t .own)
 unfolding Claim
-endsAgree own far cic different r t q r5 r12 t5 t12 = (
-    atStagesEitherWay SameStage idle seized complete free answered cleared (r .state) (t .state) (k .call),
-    marksEqual (t .far) (r .own) (k .blockOfFirst),
-    marksEqual (r .far) (t .own) (k .blockOfSecond),
-  )
-  where
-    k : Agree (end r []) (end t [])
-    k = twoEndsAgree own far cic different (end r []) (end t []) q refl refl (neitherAwaits (r .state) r5 r12) (neitherAwaits (t .state) t5 t12)
+endsAgree own far cic different r t q r5 r12 t5 t12 =
+    agreed (twoEndsAgree own far cic different (end r []) (end t []) q refl refl (neitherAwaits (r .state) r5 r12) (neitherAwaits (t .state) t5 t12))
 
 -- signals that never arrive, and the states in which they do not: RLG but in 5 and 12; ANC, ANN, CBK, RAN in 1; CLF in 2, 3 and 4
 pub data Never : Signal → (state : ℕ) → Type 0 where
@@ -165,3 +176,64 @@ pub neverNext : (own far cic : ℕ) → (own ≡ far → ⊥)
     → Never s (r .state) → ⊥
 unfolding ClaimUnheard
 neverNext own far cic different r s w y q n = notBoth (unheard (r .state) s) (isUnheard n) (someNeverArrive own far cic different (end r (s ∷ w)) y q .0 s w refl)
+
+-- TWO TABLES
+
+-- The same of two exchanges, each with a table of records. An exchange is its table and the queue of signals on their way to it on one circuit;
+-- `tables.Reached own far cic m n x y`: two exchanges whose tables, of m and n octets, were zeros at first can come to be x and y, while no event
+-- is refused 13. The step is `stepIn`, the definition that the contract of the program's step on a table cites.
+abbrev exchange : List ℕ → List Signal → Exchange
+exchange table w = record { table = table; coming = w }
+
+abbrev Came : (own far cic m n : ℕ) → tables.Both → Type 0
+Came own far cic m n p = tables.Reached own far cic m n (p .0) (p .1)
+
+module _ {own far cic m n : ℕ} where
+  pub tablesIdle : tables.Reached own far cic m n (exchange (zeros m) []) (exchange (zeros n) [])
+  tablesIdle = tables.Reached.start
+
+  module _ {t u : List ℕ} {w v : List Signal} where
+    pub tableArrives : {s : Signal} → (stepIn own far t cic (Is (Arrives s)) .answer .refusal ≡ 13 → ⊥)
+        → tables.Reached own far cic m n (exchange t (s ∷ w)) (exchange u v)
+        → tables.Reached own far cic m n (exchange (stepIn own far t cic (Is (Arrives s)) .table) w)
+            (exchange u (v ++ inOrder (stepIn own far t cic (Is (Arrives s)) .answer .sends)))
+    tableArrives not13 q = tables.Reached.atFirst q tables.Happening.arrives not13
+
+    module _ (e : Found) (not13 : stepIn own far t cic e .answer .refusal ≡ 13 → ⊥) where
+      pub tableAtAnyTime : whenGiven e ≡ anyTime → tables.Reached own far cic m n (exchange t w) (exchange u v)
+          → tables.Reached own far cic m n (exchange (stepIn own far t cic e .table) w) (exchange u (v ++ inOrder (stepIn own far t cic e .answer .sends)))
+      tableAtAnyTime k q = subst (λ (h : When). Came own far cic m n (tables.given own far cic h e (exchange t w) (exchange u v))) k (tables.Reached.atFirst q (tables.Happening.host e) not13)
+
+      pub tableAtRestart : whenGiven e ≡ losingAll → tables.Reached own far cic m n (exchange t w) (exchange u v)
+          → tables.Reached own far cic m n (exchange (stepIn own far t cic e .table) []) (exchange u (inOrder (stepIn own far t cic e .answer .sends)))
+      tableAtRestart k q = subst (λ (h : When). Came own far cic m n (tables.given own far cic h e (exchange t w) (exchange u v))) k (tables.Reached.atFirst q (tables.Happening.host e) not13)
+
+    -- any event on another circuit of the table
+    pub tableBeside : (i : ℕ) (e : Found) → (i ≡ cic → ⊥) → (stepIn own far t i e .answer .refusal ≡ 13 → ⊥)
+        → tables.Reached own far cic m n (exchange t w) (exchange u v)
+        → tables.Reached own far cic m n (exchange (stepIn own far t i e .table) w) (exchange u v)
+    tableBeside i e other not13 q = subst
+        (λ (b : Bool). Came own far cic m n (cond b (exchange t w, exchange u v) (exchange (stepIn own far t i e .table) w, exchange u v)))
+        (ne-eqb i cic other) (tables.Reached.atFirst q (tables.Happening.beside i e) not13)
+
+  pub tableAtSilence : {t u : List ℕ} (e : Found) → (stepIn own far t cic e .answer .refusal ≡ 13 → ⊥) → whenGiven e ≡ inSilence
+      → tables.Reached own far cic m n (exchange t []) (exchange u [])
+      → tables.Reached own far cic m n (exchange (stepIn own far t cic e .table) []) (exchange u (inOrder (stepIn own far t cic e .answer .sends)))
+  tableAtSilence {t} {u} e not13 k q = subst (λ (h : When). Came own far cic m n (tables.given own far cic h e (exchange t []) (exchange u []))) k
+      (tables.Reached.atFirst q (tables.Happening.host e) not13)
+
+  -- the same happens at the second exchange
+  pub eitherExchangeFirst : {x y : Exchange} → tables.Reached own far cic m n x y → tables.Reached far own cic n m y x
+  eitherExchangeFirst = mirrorTables
+
+-- For every two groups with mirrored codes and every circuit that both have.
+pub tablesAgreeToo : (own far cic m n : ℕ) → badGroup own far (recordsIn m) ≡ false → badGroup far own (recordsIn n) ≡ false
+    → cic < recordsIn m → cic < recordsIn n
+    → (t u : List ℕ) → tables.Reached own far cic m n (exchange t []) (exchange u [])
+    → (recordAt t cic .state ≡ 5 → ⊥) → (recordAt t cic .state ≡ 12 → ⊥) → (recordAt u cic .state ≡ 5 → ⊥) → (recordAt u cic .state ≡ 12 → ⊥)
+    → (SameStage (recordAt t cic .state) (recordAt u cic .state) ⊎ SameStage (recordAt u cic .state) (recordAt t cic .state))
+        × (recordAt u cic .far ≡ recordAt t cic .own) × (recordAt t cic .far ≡ recordAt u cic .own)
+unfolding tables.Claim
+tablesAgreeToo own far cic m n good good' has has' t u q t5 t12 u5 u12 =
+    agreed (tablesAgree own far cic m n good good' has has' (exchange t []) (exchange u []) q refl refl
+      (neitherAwaits (recordAt t cic .state) t5 t12) (neitherAwaits (recordAt u cic .state) u5 u12))
