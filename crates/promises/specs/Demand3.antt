@@ -10,9 +10,11 @@ use mathlib.Core.List.{List, [], _∷_, _++_}
 use mathlib.Core.Logic.{_⊎_}
 use Prim.Native.Nat.{ℕ, _<_}
 use lib.Dec.{T}
+use lib.ListN.{take}
 use borrow.Author.Tests.{ne-eqb}
 use Rattle.circuit.specs.declared.Record.{Record}
 use Rattle.circuit.specs.declared.Failure.{Failure}
+use Rattle.circuit.specs.declared.Failure.the-variants.{Ssb}
 use Rattle.circuit.specs.declared.AddressType.{AddressType}
 use Rattle.circuit.specs.declared.Charging.{Charging}
 use Rattle.circuit.specs.declared.Signal.{Signal}
@@ -26,19 +28,27 @@ use Rattle.circuit.specs.declared.Sends.{Sends}
 use Rattle.circuit.specs.declared.Sends.the-variants.{Nothing, One, Two}
 use Rattle.circuit.specs.Records.{rec, plain}
 use Rattle.circuit.specs.Groups.{badGroup, controls}
+use Rattle.codes.specs.declared.Named.the-variants.{Known}
 use Rattle.codes.specs.declared.Found.{Found}
 use Rattle.codes.specs.declared.Found.the-variants.{Is, Missing}
+use Rattle.codes.specs.Headings.{headingOf}
 use Rattle.step.specs.Step.{stepFound}
 use Rattle.layout.specs.Layout.{recordsIn, recordAt, idle as zeros}
 use Rattle.group.specs.Table.{stepIn}
+use Rattle.reader.specs.Reading.{reading}
+use Rattle.writer.specs.Writing.{said, writing}
 use Rattle.ends.specs.Ends.{End, Pair, Reached, Reached.start, Reached.atFirst, When, When.anyTime, When.inSilence, When.losingAll, When.never, whenGiven, Happening.arrives, Happening.host, inOrder, does, given, unheard, Agree, Claim, ClaimUnheard}
 use Rattle.ends.proofs.Standing.{mirror}
 use Rattle.ends.proofs.Claim.{twoEndsAgree}
 use Rattle.ends.proofs.Heard.{someNeverArrive}
 use Rattle.ends.proofs.Plain.{atStagesEitherWay, neitherAwaits, marksEqual, unheardRlg, notBoth}
+use Rattle.ends.specs.Cases.{Step, Step.C, Step.N, command, timer, after, cases, runs, led}
+use Rattle.ends.proofs.Cases.{asTold, reached}
 use Rattle.exchanges.specs.Tables.{Exchange}
 use Rattle.exchanges.specs.Tables as tables
 use Rattle.exchanges.proofs.Tables.{mirrorTables, tablesAgree}
+use Rattle.exchanges.specs.Link.{octetOf, saying, Told, onTheLink}
+use Rattle.exchanges.proofs.Link.{octetsStand}
 
 -- THE RULES
 
@@ -64,13 +74,13 @@ when (e ∷ l) = whenGiven e ∷ when l
 abbrev order : Command → Found
 order k = Is (Ordered k)
 
-abbrev timer : Timer → Found
-timer t = Is (RunsOut t)
+abbrev runsOut : Timer → Found
+runsOut t = Is (RunsOut t)
 
 pub hostTimes : (t : AddressType) (free : Bool) (charging : Charging) (failure : Failure)
     → when (order Seize ∷ order Release ∷ order (AddressComplete t free) ∷ order (Answer charging) ∷ order ClearBack ∷ order ReAnswer
         ∷ order (FailCall failure) ∷ order Block ∷ order Unblock ∷ order Restart
-        ∷ timer AddressWait ∷ timer AnswerWait ∷ timer IncomingHangUp ∷ timer Repeat ∷ timer OneMinute ∷ timer BlockRepeat
+        ∷ runsOut AddressWait ∷ runsOut AnswerWait ∷ runsOut IncomingHangUp ∷ runsOut Repeat ∷ runsOut OneMinute ∷ runsOut BlockRepeat
         ∷ Missing ∷ [])
     ≡ anyTime ∷ anyTime ∷ anyTime ∷ anyTime ∷ anyTime ∷ anyTime
         ∷ anyTime ∷ anyTime ∷ anyTime ∷ losingAll
@@ -177,6 +187,57 @@ pub neverNext : (own far cic : ℕ) → (own ≡ far → ⊥)
 unfolding ClaimUnheard
 neverNext own far cic different r s w y q n = notBoth (unheard (r .state) s) (isUnheard n) (someNeverArrive own far cic different (end r (s ∷ w)) y q .0 s w refl)
 
+-- NOT OF NOTHING
+
+-- Runs from two idle ends, C at the end that controls the circuit and N at the other, with commands (code, detail) and timers by document 01's
+-- numbers: each of the stages, a release, a failed call, dual seizure, blocks and their end, BLO crossing IAM, a restart, a CLF lost by one,
+-- its repetition by timer 4, and timer 1.
+pub runsShown : runs cases
+    ≡ (C (command 1 0) ∷ N arrives ∷ [])
+    ∷ (C (command 1 0) ∷ N arrives ∷ N (command 3 0) ∷ C arrives ∷ [])
+    ∷ (C (command 1 0) ∷ N arrives ∷ N (command 3 4) ∷ C arrives ∷ [])
+    ∷ (C (command 1 0) ∷ N arrives ∷ N (command 3 4) ∷ C arrives ∷ N (command 4 0) ∷ C arrives ∷ [])
+    ∷ (C (command 1 0) ∷ N arrives ∷ N (command 3 4) ∷ C arrives ∷ N (command 4 0) ∷ C arrives ∷ N (command 5 0) ∷ C arrives ∷ [])
+    ∷ (C (command 1 0) ∷ N arrives ∷ N (command 3 4) ∷ C arrives ∷ N (command 4 0) ∷ C arrives ∷ C (command 2 0) ∷ N arrives ∷ C arrives ∷ [])
+    ∷ (C (command 1 0) ∷ N arrives ∷ N (command 7 0x65) ∷ [])
+    ∷ (C (command 1 0) ∷ N (command 1 0) ∷ N arrives ∷ C arrives ∷ [])
+    ∷ (N (command 8 0) ∷ C arrives ∷ N arrives ∷ C (command 1 0) ∷ [])
+    ∷ (N (command 8 0) ∷ C arrives ∷ N arrives ∷ C (command 1 0) ∷ C (command 8 0) ∷ N arrives ∷ C arrives ∷ [])
+    ∷ (N (command 8 0) ∷ C arrives ∷ N arrives ∷ C (command 1 0) ∷ C (command 8 0) ∷ N arrives ∷ C arrives ∷ N (command 9 0) ∷ C arrives ∷ N arrives ∷ [])
+    ∷ (N (command 8 0) ∷ C (command 1 0) ∷ N arrives ∷ C arrives ∷ C arrives ∷ N arrives ∷ N arrives ∷ N arrives ∷ C arrives ∷ [])
+    ∷ (C (command 1 0) ∷ N arrives ∷ N (command 3 4) ∷ C arrives ∷ N (command 4 0) ∷ C arrives ∷ N (command 5 0) ∷ C (command 10 0) ∷ N arrives ∷ C arrives ∷ [])
+    ∷ (C (command 1 0) ∷ N arrives ∷ N (command 3 4) ∷ C arrives ∷ N (command 4 0) ∷ C arrives ∷ C (command 2 0) ∷ N (command 10 0) ∷ C (timer 4) ∷ [])
+    ∷ (C (command 1 0) ∷ N arrives ∷ N (command 3 4) ∷ C arrives ∷ N (command 4 0) ∷ C arrives ∷ C (command 2 0) ∷ N (command 10 0) ∷ C (timer 4)
+        ∷ C arrives ∷ C (timer 4) ∷ N arrives ∷ C arrives ∷ [])
+    ∷ (C (command 1 0) ∷ N arrives ∷ C (timer 1) ∷ [])
+    ∷ []
+runsShown = refl
+
+-- where they lead
+pub pairsShown : led cases
+    ≡ (end (plain 1) [], end (plain 6) [])
+    ∷ (end (plain 2) [], end (plain 7) [])
+    ∷ (end (plain 2) [], end (plain 8) [])
+    ∷ (end (plain 3) [], end (plain 9) [])
+    ∷ (end (plain 4) [], end (plain 10) [])
+    ∷ (end (plain 0) [], end (plain 0) [])
+    ∷ (end (plain 1) (Fail Ssb ∷ []), end (plain 11) [])
+    ∷ (end (plain 1) [], end (plain 6) [])
+    ∷ (end (rec 0 false true false false) [], end (rec 0 true false false false) [])
+    ∷ (end (rec 0 true true false false) [], end (rec 0 true true false false) [])
+    ∷ (end (rec 0 true false false false) [], end (rec 0 false true false false) [])
+    ∷ (end (rec 0 false true false false) [], end (rec 0 true false false false) [])
+    ∷ (end (plain 0) [], end (plain 0) [])
+    ∷ (end (plain 5) (Rsc ∷ []), end (plain 12) [])
+    ∷ (end (plain 0) [], end (plain 0) [])
+    ∷ (end (plain 5) [], end (plain 6) (Clf ∷ []))
+    ∷ []
+pairsShown = asTold
+
+-- and every run leads to a pair that is reached
+pub runsReach : (steps : List Step) → Come true false (after (end (plain 0) []) (end (plain 0) []) steps)
+runsReach = reached
+
 -- TWO TABLES
 
 -- The same of two exchanges, each with a table of records. An exchange is its table and the queue of signals on their way to it on one circuit;
@@ -237,3 +298,18 @@ unfolding tables.Claim
 tablesAgreeToo own far cic m n good good' has has' t u q t5 t12 u5 u12 =
     agreed (tablesAgree own far cic m n good good' has has' (exchange t []) (exchange u []) q refl refl
       (neitherAwaits (recordAt t cic .state) t5 t12) (neitherAwaits (recordAt u cic .state) u5 u12))
+
+-- OVER THE LINK
+
+-- Octets may stand for the signals in the queues: what the writer of one exchange takes for a signal on a circuit, the reader of the other, in its own
+-- group that has the circuit, takes and reads as that signal on that circuit. Category, indicators and address are those of an IAM.
+pub octetsTell : (own far records cic : ℕ) (s : Signal) (category indicators : ℕ) (address buffer : List ℕ)
+    → writing own far records (said cic (headingOf s) (octetOf s) category indicators address) buffer .answer .refusal ≡ 0
+    → (theirs : ℕ) → badGroup far own theirs ≡ false → cic < theirs
+    → let sent = writing own far records (said cic (headingOf s) (octetOf s) category indicators address) buffer in
+      let heard = reading far own theirs (take (sent .answer .length) (sent .buffer)) in
+      (heard .refusal ≡ 0) × (heard .message .circuit .0 ≡ cic) × (heard .message .signal ≡ Known s)
+octetsTell own far records cic s category indicators address buffer ok theirs group has = (told .taken, told .circuit, told .signal)
+  where
+    told : Told cic s (reading far own theirs (onTheLink own far records (saying cic s category indicators address) buffer))
+    told = octetsStand own far records cic s category indicators address buffer ok theirs group has
