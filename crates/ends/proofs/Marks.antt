@@ -18,7 +18,7 @@ use Rattle.codes.specs.declared.Found.{Found}
 use Rattle.codes.specs.declared.Found.the-variants.{Is}
 use Rattle.step.specs.Step.{step, stepFound}
 use Rattle.ends.specs.Machine.{inOrder, acted, arrival, When, When.anyTime, When.inSilence, When.losingAll, When.never, whenGiven, silence, emptied, given, Happening, Happening.arrives, Happening.host, turn}
-use Rattle.ends.specs.Ends.{End, Pair, does, seen, acts, marks}
+use Rattle.ends.specs.Ends.{End, Pair, does, seen, endActs, marks}
 use Rattle.ends.proofs.Words.{blo, ubl, rsc, word, heard, heard-more, sameBool}
 use Rattle.ends.proofs.Events.{said, alike, everywhere, atWord, atHost}
 
@@ -161,7 +161,7 @@ module _ (c : Bool) (other : End) where
   abbrev N : Bool
   N = told (other .holds .far) (heard (other .coming))
 
-  arrived : (r : Record) (q : List Signal) → Marks (record { holds = r; coming = q }) other → MarksPair (arrival (acts c) r q other)
+  arrived : (r : Record) (q : List Signal) → Marks (record { holds = r; coming = q }) other → MarksPair (arrival (endActs c) r q other)
   arrived r [] i = i
   arrived r (x ∷ rest) i = keepsMarks r (eqb (word x) rsc || Z) rest (marked (r .far) (word x)) other (does c r (Is (Arrives x))) (i .there) (i .back) (i .yours)
       (rw (alike c r x) (atBool (keeping N) (atBool (λ m. eachBool (keeping m)) (atWord wordKeeps hostKeeps kept-in-step c r (i .mine) x) N) Z))
@@ -201,17 +201,17 @@ module _ (c : Bool) (other : End) where
       keeping : Bool → Bool → Bool
       keeping m z = keeps (me .holds) m z z (me .holds .far) o
 
-  hosted : (me : End) → Marks me other → (e : Found) (w : When) → T (hostKeepsWhen w (me .holds) (does c (me .holds) e)) → MarksPair (given (acts c) w e me other)
+  hosted : (me : End) → Marks me other → (e : Found) (w : When) → T (hostKeepsWhen w (me .holds) (does c (me .holds) e)) → MarksPair (given (endActs c) w e me other)
   hosted me i e anyTime test = plainly me i (does c (me .holds) e) test
   hosted me i e inSilence test = by (silence me other)
     where
-      by : (s : Bool) → MarksPair (cond s (acted (acts c (me .holds) e) (me .coming) other) (me, other))
+      by : (s : Bool) → MarksPair (cond s (acted (endActs c (me .holds) e) (me .coming) other) (me, other))
       by true = plainly me i (does c (me .holds) e) test
       by false = i
   hosted me i e losingAll test = lost (does c (me .holds) e) (i .yours) test
   hosted me i e never test = i
 
-  pub turned : (me : End) → Marks me other → (h : Happening) → MarksPair (turn (acts c) h me other)
+  pub turned : (me : End) → Marks me other → (h : Happening) → MarksPair (turn (endActs c) h me other)
   turned me i arrives = arrived (me .holds) (me .coming) i
   turned me i (host e) = hosted me i e (whenGiven e) (atHost wordKeeps hostKeeps kept-in-step c (me .holds) (i .mine) (λ x. tt) e)
 

@@ -10,7 +10,7 @@ use Rattle.circuit.specs.declared.Signal.the-variants.{Clf, Rsc, Fail}
 use Rattle.circuit.specs.Records.{rec, plain}
 use Rattle.codes.specs.Numbers.{eventOf}
 use Rattle.ends.specs.Machine.{Happening, Happening.arrives, Happening.host, turn}
-use Rattle.ends.specs.Ends.{End, idle, Pair, acts}
+use Rattle.ends.specs.Ends.{End, idle, Pair, endActs}
 
 -- what happens at the controlling end, or at the other
 pub data Step : Type 0 where
@@ -18,8 +18,8 @@ pub data Step : Type 0 where
 
 abbrev pub after : End → End → List Step → Pair
 after c n [] = (c, n)
-after c n (C h ∷ steps) = after (turn (acts true) h c n .0) (turn (acts true) h c n .1) steps
-after c n (N h ∷ steps) = after (turn (acts false) h n c .1) (turn (acts false) h n c .0) steps
+after c n (C h ∷ steps) = after (turn (endActs true) h c n .0) (turn (endActs true) h c n .1) steps
+after c n (N h ∷ steps) = after (turn (endActs false) h n c .1) (turn (endActs false) h n c .0) steps
 
 -- the host's events by their numbers
 abbrev pub command : ℕ → ℕ → Happening

@@ -36,14 +36,14 @@ does c r e = stepFound c r e
 abbrev pub seen : Outcome → Effect Record
 seen o = record { after = o .after; sends = o .sends }
 
-abbrev pub acts : (c : Bool) → Record → Found → Effect Record
-acts c r e = seen (does c r e)
+abbrev pub endActs : (c : Bool) → Record → Found → Effect Record
+endActs c r e = seen (does c r e)
 
 -- The pairs that are reached from two idle ends with nothing on its way; a, b: whether the first and the second end control the circuit.
 pub data Reached (a b : Bool) : End → End → Type 0 where
   start : Reached a b idle idle
-  atFirst : {x y : End} → Reached a b x y → (h : Happening) → Reached a b (turn (acts a) h x y .0) (turn (acts a) h x y .1)
-  atSecond : {x y : End} → Reached a b x y → (h : Happening) → Reached a b (turn (acts b) h y x .1) (turn (acts b) h y x .0)
+  atFirst : {x y : End} → Reached a b x y → (h : Happening) → Reached a b (turn (endActs a) h x y .0) (turn (endActs a) h x y .1)
+  atSecond : {x y : End} → Reached a b x y → (h : Happening) → Reached a b (turn (endActs b) h y x .1) (turn (endActs b) h y x .0)
 
 -- both idle, or the first outgoing and the second incoming at the same stage
 abbrev pub sameStage : ℕ → ℕ → Bool

@@ -37,15 +37,15 @@ use Rattle.layout.specs.Layout.{recordsIn, recordAt, idle as zeros}
 use Rattle.group.specs.Table.{stepIn}
 use Rattle.reader.specs.Reading.{reading}
 use Rattle.writer.specs.Writing.{said, writing}
-use Rattle.ends.specs.Ends.{End, Pair, Reached, Reached.start, Reached.atFirst, When, When.anyTime, When.inSilence, When.losingAll, When.never, whenGiven, Happening.arrives, Happening.host, inOrder, does, given, unheard, Agree, Claim, ClaimUnheard}
+use Rattle.ends.specs.Machine.{Both, inOrder, When, When.anyTime, When.inSilence, When.losingAll, When.never, whenGiven, Happening.arrives, Happening.host, given}
+use Rattle.ends.specs.Ends.{End, Pair, Reached, Reached.start, Reached.atFirst, does, endActs, unheard, Agree, Claim, ClaimUnheard}
 use Rattle.ends.proofs.Standing.{mirror}
 use Rattle.ends.proofs.Claim.{twoEndsAgree}
 use Rattle.ends.proofs.Heard.{someNeverArrive}
 use Rattle.ends.proofs.Plain.{atStagesEitherWay, neitherAwaits, marksEqual, unheardRlg, notBoth}
 use Rattle.ends.specs.Cases.{Step, Step.C, Step.N, command, timer, after, cases, runs, led}
 use Rattle.ends.proofs.Cases.{asTold, reached}
-use Rattle.exchanges.specs.Tables.{Exchange}
-use Rattle.exchanges.specs.Tables as tables
+use Rattle.exchanges.specs.Tables.{Exchange, tableActs, HappeningIn.on, HappeningIn.beside, ReachedIn, ReachedIn.start, ReachedIn.atFirst, ClaimIn}
 use Rattle.exchanges.proofs.Tables.{mirrorTables, tablesAgree}
 use Rattle.exchanges.specs.Link.{octetOf, saying, Told, onTheLink}
 use Rattle.exchanges.proofs.Link.{octetsStand}
@@ -112,19 +112,19 @@ module _ {a b : Bool} where
     pub atAnyTime : (e : Found) → whenGiven e ≡ anyTime → Reached a b (end r w) (end t v)
         → Reached a b (end (stepFound a r e .after) w) (end t (v ++ inOrder (stepFound a r e .sends)))
     unfolding does
-    atAnyTime e k q = subst (λ (h : When). Come a b (given h a e (end r w) (end t v))) k (atFirst q (host e))
+    atAnyTime e k q = subst (λ (h : When). Come a b (given (endActs a) h e (end r w) (end t v))) k (atFirst q (host e))
 
     -- a restart: all that was on its way is lost, in both directions
     pub atRestart : (e : Found) → whenGiven e ≡ losingAll → Reached a b (end r w) (end t v)
         → Reached a b (end (stepFound a r e .after) []) (end t (inOrder (stepFound a r e .sends)))
     unfolding does
-    atRestart e k q = subst (λ (h : When). Come a b (given h a e (end r w) (end t v))) k (atFirst q (host e))
+    atRestart e k q = subst (λ (h : When). Come a b (given (endActs a) h e (end r w) (end t v))) k (atFirst q (host e))
 
   -- in silence
   pub atSilence : {r t : Record} → (e : Found) → whenGiven e ≡ inSilence → Reached a b (end r []) (end t [])
       → Reached a b (end (stepFound a r e .after) []) (end t (inOrder (stepFound a r e .sends)))
   unfolding does
-  atSilence {r} {t} e k q = subst (λ (h : When). Come a b (given h a e (end r []) (end t []))) k (atFirst q (host e))
+  atSilence {r} {t} e k q = subst (λ (h : When). Come a b (given (endActs a) h e (end r []) (end t []))) k (atFirst q (host e))
 
   -- the same happens at the second end: first and second may change places
   pub eitherFirst : {x y : End} → Reached a b x y → Reached b a y x
@@ -241,60 +241,60 @@ runsReach = reached
 -- TWO TABLES
 
 -- The same of two exchanges, each with a table of records. An exchange is its table and the queue of signals on their way to it on one circuit;
--- `tables.Reached own far cic m n x y`: two exchanges whose tables, of m and n octets, were zeros at first can come to be x and y, while no event
+-- `ReachedIn own far cic m n x y`: two exchanges whose tables, of m and n octets, were zeros at first can come to be x and y, while no event
 -- is refused 13. The step is `stepIn`, the definition that the contract of the program's step on a table cites.
 abbrev exchange : List ℕ → List Signal → Exchange
-exchange table w = record { table = table; coming = w }
+exchange table w = record { holds = table; coming = w }
 
-abbrev Came : (own far cic m n : ℕ) → tables.Both → Type 0
-Came own far cic m n p = tables.Reached own far cic m n (p .0) (p .1)
+abbrev Came : (own far cic m n : ℕ) → Both (List ℕ) → Type 0
+Came own far cic m n p = ReachedIn own far cic m n (p .0) (p .1)
 
 module _ {own far cic m n : ℕ} where
-  pub tablesIdle : tables.Reached own far cic m n (exchange (zeros m) []) (exchange (zeros n) [])
-  tablesIdle = tables.Reached.start
+  pub tablesIdle : ReachedIn own far cic m n (exchange (zeros m) []) (exchange (zeros n) [])
+  tablesIdle = ReachedIn.start
 
   module _ {t u : List ℕ} {w v : List Signal} where
     pub tableArrives : {s : Signal} → (stepIn own far t cic (Is (Arrives s)) .answer .refusal ≡ 13 → ⊥)
-        → tables.Reached own far cic m n (exchange t (s ∷ w)) (exchange u v)
-        → tables.Reached own far cic m n (exchange (stepIn own far t cic (Is (Arrives s)) .table) w)
+        → ReachedIn own far cic m n (exchange t (s ∷ w)) (exchange u v)
+        → ReachedIn own far cic m n (exchange (stepIn own far t cic (Is (Arrives s)) .table) w)
             (exchange u (v ++ inOrder (stepIn own far t cic (Is (Arrives s)) .answer .sends)))
-    tableArrives not13 q = tables.Reached.atFirst q tables.Happening.arrives not13
+    tableArrives not13 q = ReachedIn.atFirst q (on arrives) not13
 
     module _ (e : Found) (not13 : stepIn own far t cic e .answer .refusal ≡ 13 → ⊥) where
-      pub tableAtAnyTime : whenGiven e ≡ anyTime → tables.Reached own far cic m n (exchange t w) (exchange u v)
-          → tables.Reached own far cic m n (exchange (stepIn own far t cic e .table) w) (exchange u (v ++ inOrder (stepIn own far t cic e .answer .sends)))
-      tableAtAnyTime k q = subst (λ (h : When). Came own far cic m n (tables.given own far cic h e (exchange t w) (exchange u v))) k (tables.Reached.atFirst q (tables.Happening.host e) not13)
+      pub tableAtAnyTime : whenGiven e ≡ anyTime → ReachedIn own far cic m n (exchange t w) (exchange u v)
+          → ReachedIn own far cic m n (exchange (stepIn own far t cic e .table) w) (exchange u (v ++ inOrder (stepIn own far t cic e .answer .sends)))
+      tableAtAnyTime k q = subst (λ (h : When). Came own far cic m n (given (tableActs own far cic) h e (exchange t w) (exchange u v))) k (ReachedIn.atFirst q (on (host e)) not13)
 
-      pub tableAtRestart : whenGiven e ≡ losingAll → tables.Reached own far cic m n (exchange t w) (exchange u v)
-          → tables.Reached own far cic m n (exchange (stepIn own far t cic e .table) []) (exchange u (inOrder (stepIn own far t cic e .answer .sends)))
-      tableAtRestart k q = subst (λ (h : When). Came own far cic m n (tables.given own far cic h e (exchange t w) (exchange u v))) k (tables.Reached.atFirst q (tables.Happening.host e) not13)
+      pub tableAtRestart : whenGiven e ≡ losingAll → ReachedIn own far cic m n (exchange t w) (exchange u v)
+          → ReachedIn own far cic m n (exchange (stepIn own far t cic e .table) []) (exchange u (inOrder (stepIn own far t cic e .answer .sends)))
+      tableAtRestart k q = subst (λ (h : When). Came own far cic m n (given (tableActs own far cic) h e (exchange t w) (exchange u v))) k (ReachedIn.atFirst q (on (host e)) not13)
 
     -- any event on another circuit of the table
     pub tableBeside : (i : ℕ) (e : Found) → (i ≡ cic → ⊥) → (stepIn own far t i e .answer .refusal ≡ 13 → ⊥)
-        → tables.Reached own far cic m n (exchange t w) (exchange u v)
-        → tables.Reached own far cic m n (exchange (stepIn own far t i e .table) w) (exchange u v)
+        → ReachedIn own far cic m n (exchange t w) (exchange u v)
+        → ReachedIn own far cic m n (exchange (stepIn own far t i e .table) w) (exchange u v)
     tableBeside i e other not13 q = subst
         (λ (b : Bool). Came own far cic m n (cond b (exchange t w, exchange u v) (exchange (stepIn own far t i e .table) w, exchange u v)))
-        (ne-eqb i cic other) (tables.Reached.atFirst q (tables.Happening.beside i e) not13)
+        (ne-eqb i cic other) (ReachedIn.atFirst q (beside i e) not13)
 
   pub tableAtSilence : {t u : List ℕ} (e : Found) → (stepIn own far t cic e .answer .refusal ≡ 13 → ⊥) → whenGiven e ≡ inSilence
-      → tables.Reached own far cic m n (exchange t []) (exchange u [])
-      → tables.Reached own far cic m n (exchange (stepIn own far t cic e .table) []) (exchange u (inOrder (stepIn own far t cic e .answer .sends)))
-  tableAtSilence {t} {u} e not13 k q = subst (λ (h : When). Came own far cic m n (tables.given own far cic h e (exchange t []) (exchange u []))) k
-      (tables.Reached.atFirst q (tables.Happening.host e) not13)
+      → ReachedIn own far cic m n (exchange t []) (exchange u [])
+      → ReachedIn own far cic m n (exchange (stepIn own far t cic e .table) []) (exchange u (inOrder (stepIn own far t cic e .answer .sends)))
+  tableAtSilence {t} {u} e not13 k q = subst (λ (h : When). Came own far cic m n (given (tableActs own far cic) h e (exchange t []) (exchange u []))) k
+      (ReachedIn.atFirst q (on (host e)) not13)
 
   -- the same happens at the second exchange
-  pub eitherExchangeFirst : {x y : Exchange} → tables.Reached own far cic m n x y → tables.Reached far own cic n m y x
+  pub eitherExchangeFirst : {x y : Exchange} → ReachedIn own far cic m n x y → ReachedIn far own cic n m y x
   eitherExchangeFirst = mirrorTables
 
 -- For every two groups with mirrored codes and every circuit that both have.
 pub tablesAgreeToo : (own far cic m n : ℕ) → badGroup own far (recordsIn m) ≡ false → badGroup far own (recordsIn n) ≡ false
     → cic < recordsIn m → cic < recordsIn n
-    → (t u : List ℕ) → tables.Reached own far cic m n (exchange t []) (exchange u [])
+    → (t u : List ℕ) → ReachedIn own far cic m n (exchange t []) (exchange u [])
     → (recordAt t cic .state ≡ 5 → ⊥) → (recordAt t cic .state ≡ 12 → ⊥) → (recordAt u cic .state ≡ 5 → ⊥) → (recordAt u cic .state ≡ 12 → ⊥)
     → (SameStage (recordAt t cic .state) (recordAt u cic .state) ⊎ SameStage (recordAt u cic .state) (recordAt t cic .state))
         × (recordAt u cic .far ≡ recordAt t cic .own) × (recordAt t cic .far ≡ recordAt u cic .own)
-unfolding tables.Claim
+unfolding ClaimIn
 tablesAgreeToo own far cic m n good good' has has' t u q t5 t12 u5 u12 =
     agreed (tablesAgree own far cic m n good good' has has' (exchange t []) (exchange u []) q refl refl
       (neitherAwaits (recordAt t cic .state) t5 t12) (neitherAwaits (recordAt u cic .state) u5 u12))
