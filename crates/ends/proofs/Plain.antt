@@ -32,17 +32,17 @@ module _ (P : ℕ → ℕ → Type 0) (idle : P 0 0) (seized : P 1 6) (complete 
   atStages : T (sameStage p q) → P p q
   atStages =
       byCases (is 0 0 || is 1 6 || second || is 3 9) (is 4 10)
-        (byCases (is 0 0 || is 1 6 || second) (is 3 9)
-          (byCases (is 0 0 || is 1 6) second (byCases (is 0 0) (is 1 6) (at 0 0 idle) (at 1 6 seized)) atSecond)
-          (at 3 9 answered))
-        (at 4 10 cleared)
+      (byCases (is 0 0 || is 1 6 || second) (is 3 9)
+      (byCases (is 0 0 || is 1 6) second (byCases (is 0 0) (is 1 6) (at 0 0 idle) (at 1 6 seized)) atSecond)
+      (at 3 9 answered))
+      (at 4 10 cleared)
 
 -- either end may be the outgoing one
 pub atStagesEitherWay : (P : ℕ → ℕ → Type 0) → P 0 0 → P 1 6 → P 2 7 → P 2 8 → P 3 9 → P 4 10 → (p q : ℕ) → T (sameStage p q || sameStage q p) → P p q ⊎ P q p
 atStagesEitherWay P idle seized complete free answered cleared p q =
     byCases (sameStage p q) (sameStage q p)
-      (λ t. inl (atStages P idle seized complete free answered cleared p q t))
-      (λ t. inr (atStages P idle seized complete free answered cleared q p t))
+    (λ t. inl (atStages P idle seized complete free answered cleared p q t))
+    (λ t. inr (atStages P idle seized complete free answered cleared q p t))
 
 -- an end awaits only in 5 and 12
 pub neitherAwaits : (s : ℕ) → (s ≡ 5 → ⊥) → (s ≡ 12 → ⊥) → T (not (awaits s))

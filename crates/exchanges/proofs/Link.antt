@@ -1,23 +1,19 @@
 -- The octets that a writer wrote for a signal are read as that signal.
 -- Assumes nothing.
-use mathlib.Core.Path.{_≡_, refl, sym, ap, _∙_}
-use mathlib.Core.Bool.{Bool, false}
+use mathlib.Core.Path.{_≡_, refl}
+use mathlib.Core.Bool.{false}
 use mathlib.Core.List.{List}
 use Prim.Native.Nat.{ℕ, _<_}
-use lib.ListN.{take}
 use Rattle.circuit.specs.declared.Failure.the-variants.{Sec, Cgc, Nnc, Adi, Cfl, Ssb, Unn, Los, Sst}
 use Rattle.circuit.specs.declared.Signal.{Signal}
 use Rattle.circuit.specs.declared.Signal.the-variants.{Iam, Acm, Anc, Ann, Cbk, Clf, Ran, Rlg, Blo, Bla, Ubl, Uba, Rsc, Fail}
 use Rattle.circuit.specs.Groups.{badGroup}
-use Rattle.codes.specs.declared.Named.the-variants.{Known}
-use Rattle.codes.specs.Headings.{headingOf}
 use Rattle.reader.specs.declared.Fields.{Fields}
-use Rattle.reader.specs.declared.Reading.{Reading}
-use Rattle.reader.specs.Reading.{fieldsOf, messageOf, reading}
-use Rattle.writer.specs.Writing.{Said, said, writing}
+use Rattle.reader.specs.Reading.{messageOf, reading}
+use Rattle.writer.specs.Writing.{writing}
 use Rattle.inverse.specs.Said.{fieldsSaid}
 use Rattle.inverse.specs.Laws.{readingBack}
-use Rattle.exchanges.specs.Link.{octetOf, saying, Told, onTheLink}
+use Rattle.exchanges.specs.Link.{saying, Told, onTheLink}
 
 -- the fields of a signal's message name the signal
 abbrev Names : (cic : ℕ) → Signal → Fields → Type 0

@@ -1,12 +1,12 @@
 -- Each thing that happens to two tables is one that happens to two ends of the circuit, or leaves them as they are: so the tables agree.
 -- Assumes nothing.
 use mathlib.Core.Path.{_≡_, refl, sym, ap, _∙_, subst}
-use mathlib.Core.Bool.{Bool, true, false, not, cond, _&&_, _||_, true≢false, false≢true}
+use mathlib.Core.Bool.{Bool, true, false, cond, _||_, true≢false, false≢true}
 use mathlib.Core.List.{List, [], _∷_, _++_}
 use Prim.Native.Nat.{ℕ, _<_}
-use lib.Dec.{T, eqb, ltb, eqb-refl}
+use lib.Dec.{eqb, ltb}
 use lib.ListN.{length, length-replicate}
-use borrow.Author.Tests.{eqb-true, eqb-false, eq-eqb}
+use borrow.Author.Tests.{eqb-false, eq-eqb}
 use Rattle.circuit.specs.declared.Record.{Record}
 use Rattle.circuit.specs.declared.Signal.{Signal}
 use Rattle.circuit.specs.declared.Signal.the-variants.{Iam}
@@ -18,10 +18,10 @@ use Rattle.codes.specs.declared.Found.{Found}
 use Rattle.codes.specs.declared.Found.the-variants.{Is}
 use Rattle.step.specs.Step.{stepFound}
 use Rattle.layout.specs.Layout.{recordsIn, stateAt, flagsAt, recordOf, recordAt, idle, idleState, idleFlags}
-use Rattle.group.specs.Table.{Step, stepIn}
+use Rattle.group.specs.Table.{stepIn}
 use Rattle.group.specs.Laws.{Carries, Same, isStep, others, keepsLength}
-use Rattle.group.specs.Valid.{ValidAt, ValidTable, staysValid, idleValid}
-use Rattle.ends.specs.Machine.{Both, Effect, acted, arrival, When, When.anyTime, When.inSilence, When.losingAll, When.never, whenGiven, silence, given, emptied, Happening, Happening.arrives, Happening.host, turn, inOrder}
+use Rattle.group.specs.Valid.{ValidTable, staysValid, idleValid}
+use Rattle.ends.specs.Machine.{Both, acted, arrival, When, When.anyTime, When.inSilence, When.losingAll, When.never, whenGiven, silence, given, emptied, Happening, Happening.arrives, Happening.host, turn, inOrder}
 use Rattle.ends.specs.Ends as ends
 use Rattle.ends.proofs.Claim.{twoEndsAgree}
 use Rattle.exchanges.specs.Tables.{Exchange, endAt, tableActs, HappeningIn, HappeningIn.on, HappeningIn.beside, turnIn, arrivalRefusal, refusal, ReachedIn, ReachedIn.start, ReachedIn.atFirst, ReachedIn.atSecond, ClaimIn}

@@ -1,23 +1,16 @@
 -- Octets may stand for signals in the queues between two exchanges: what one exchange's writer writes for a signal on a circuit, the other's
 -- reader reads as that signal on that circuit.
 -- Assumes nothing.
-use mathlib.Core.Path.{_≡_, refl, sym, ap, _∙_}
-use mathlib.Core.Bool.{Bool, false}
+use mathlib.Core.Path.{_≡_}
 use mathlib.Core.List.{List}
-use Prim.Native.Nat.{ℕ, _<_}
+use Prim.Native.Nat.{ℕ}
 use lib.ListN.{take}
-use Rattle.circuit.specs.declared.Failure.the-variants.{Sec, Cgc, Nnc, Adi, Cfl, Ssb, Unn, Los, Sst}
 use Rattle.circuit.specs.declared.Signal.{Signal}
 use Rattle.circuit.specs.declared.Signal.the-variants.{Iam, Acm, Anc, Ann, Cbk, Clf, Ran, Rlg, Blo, Bla, Ubl, Uba, Rsc, Fail}
-use Rattle.circuit.specs.Groups.{badGroup}
 use Rattle.codes.specs.declared.Named.the-variants.{Known}
 use Rattle.codes.specs.Headings.{headingOf}
-use Rattle.reader.specs.declared.Fields.{Fields}
 use Rattle.reader.specs.declared.Reading.{Reading}
-use Rattle.reader.specs.Reading.{fieldsOf, messageOf, reading}
 use Rattle.writer.specs.Writing.{Said, said, writing}
-use Rattle.inverse.specs.Said.{fieldsSaid}
-use Rattle.inverse.specs.Laws.{readingBack}
 
 -- ACM's octet; no other signal has one
 abbrev pub octetOf : Signal → ℕ

@@ -18,13 +18,12 @@ use Rattle.circuit.specs.declared.Failure.the-variants.{Ssb}
 use Rattle.circuit.specs.declared.AddressType.{AddressType}
 use Rattle.circuit.specs.declared.Charging.{Charging}
 use Rattle.circuit.specs.declared.Signal.{Signal}
-use Rattle.circuit.specs.declared.Signal.the-variants.{Iam, Acm, Anc, Ann, Cbk, Clf, Ran, Rlg, Blo, Bla, Ubl, Uba, Rsc, Fail}
+use Rattle.circuit.specs.declared.Signal.the-variants.{Anc, Ann, Cbk, Clf, Ran, Rlg, Rsc, Fail}
 use Rattle.circuit.specs.declared.Command.{Command}
 use Rattle.circuit.specs.declared.Command.the-variants.{Seize, Release, AddressComplete, Answer, ClearBack, ReAnswer, FailCall, Block, Unblock, Restart}
 use Rattle.circuit.specs.declared.Timer.{Timer}
 use Rattle.circuit.specs.declared.Timer.the-variants.{AddressWait, AnswerWait, IncomingHangUp, Repeat, OneMinute, BlockRepeat}
 use Rattle.circuit.specs.declared.Event.the-variants.{Arrives, Ordered, RunsOut}
-use Rattle.circuit.specs.declared.Sends.{Sends}
 use Rattle.circuit.specs.declared.Sends.the-variants.{Nothing, One, Two}
 use Rattle.circuit.specs.Records.{rec, plain}
 use Rattle.circuit.specs.Groups.{badGroup, controls}
@@ -66,7 +65,8 @@ oneSent s = refl
 pub twoSent : (s t : Signal) → inOrder (Two s t) ≡ s ∷ t ∷ []
 twoSent s t = refl
 
--- when the host can let an event happen: commands whatever their detail, timers, numbers that name no event; never a signal
+-- When the host can let an event happen: timers 4 to 6 in silence, command 10 (restart) with the loss of all that is on its way, the other commands,
+-- whatever their detail, timers 1 to 3 and numbers that name no event at any time. A signal never comes from the host.
 abbrev when : List Found → List When
 when [] = []
 when (e ∷ l) = whenGiven e ∷ when l
@@ -77,50 +77,53 @@ order k = Is (Ordered k)
 abbrev runsOut : Timer → Found
 runsOut t = Is (RunsOut t)
 
-pub hostTimes : (t : AddressType) (free : Bool) (charging : Charging) (failure : Failure)
+pub anyTimes : (t : AddressType) (free : Bool) (charging : Charging) (failure : Failure)
     → when (order Seize ∷ order Release ∷ order (AddressComplete t free) ∷ order (Answer charging) ∷ order ClearBack ∷ order ReAnswer
-        ∷ order (FailCall failure) ∷ order Block ∷ order Unblock ∷ order Restart
-        ∷ runsOut AddressWait ∷ runsOut AnswerWait ∷ runsOut IncomingHangUp ∷ runsOut Repeat ∷ runsOut OneMinute ∷ runsOut BlockRepeat
-        ∷ Missing ∷ [])
+    ∷ order (FailCall failure) ∷ order Block ∷ order Unblock ∷ runsOut AddressWait ∷ runsOut AnswerWait ∷ runsOut IncomingHangUp ∷ Missing ∷ [])
     ≡ anyTime ∷ anyTime ∷ anyTime ∷ anyTime ∷ anyTime ∷ anyTime
-        ∷ anyTime ∷ anyTime ∷ anyTime ∷ losingAll
-        ∷ anyTime ∷ anyTime ∷ anyTime ∷ inSilence ∷ inSilence ∷ inSilence
-        ∷ anyTime ∷ []
-hostTimes t free charging failure = refl
+    ∷ anyTime ∷ anyTime ∷ anyTime ∷ anyTime ∷ anyTime ∷ anyTime ∷ anyTime ∷ []
+anyTimes t free charging failure = refl
+
+pub silentTimes : when (runsOut Repeat ∷ runsOut OneMinute ∷ runsOut BlockRepeat ∷ []) ≡ inSilence ∷ inSilence ∷ inSilence ∷ []
+silentTimes = refl
+
+pub restartTime : whenGiven (order Restart) ≡ losingAll
+restartTime = refl
 
 pub signalTimes : (s : Signal) → whenGiven (Is (Arrives s)) ≡ never
 signalTimes s = refl
 
+-- the pair is reached
 abbrev Come : (a b : Bool) → Pair → Type 0
 Come a b p = Reached a b (p .0) (p .1)
 
--- What happens at the first end. What its program does is `stepFound`, the definition that the contract of the program's step cites; the second end's
--- record and queue are t and v.
+-- What happens at the first end, which holds r with w on its way to it, while the second holds t with v on its way. What our program does with an
+-- event is `stepFound`, the definition that the contract of its step cites; a refusal keeps the record and sends nothing.
 module _ {a b : Bool} where
   -- at first both ends are idle with no flag, and nothing is on its way
   pub bothIdle : Reached a b (end (plain 0) []) (end (plain 0) [])
   bothIdle = start
 
   module _ {r t : Record} {w v : List Signal} where
-    -- the oldest signal arrives, and what the end sends comes last in the other's queue
+    -- the oldest signal on its way arrives, and what the end sends for it comes last in the other's queue
     pub signalArrives : {s : Signal} → Reached a b (end r (s ∷ w)) (end t v)
         → Reached a b (end (stepFound a r (Is (Arrives s)) .after) w) (end t (v ++ inOrder (stepFound a r (Is (Arrives s)) .sends)))
     unfolding does
     signalArrives q = atFirst q arrives
 
-    -- the host's event comes at any time, and nothing is lost
+    -- the host gives an event that may come at any time, and nothing is lost
     pub atAnyTime : (e : Found) → whenGiven e ≡ anyTime → Reached a b (end r w) (end t v)
         → Reached a b (end (stepFound a r e .after) w) (end t (v ++ inOrder (stepFound a r e .sends)))
     unfolding does
     atAnyTime e k q = subst (λ (h : When). Come a b (given (endActs a) h e (end r w) (end t v))) k (atFirst q (host e))
 
-    -- a restart: all that was on its way is lost, in both directions
+    -- a restart: all that was on its way is lost, in both directions; the end sends its RSC after that
     pub atRestart : (e : Found) → whenGiven e ≡ losingAll → Reached a b (end r w) (end t v)
         → Reached a b (end (stepFound a r e .after) []) (end t (inOrder (stepFound a r e .sends)))
     unfolding does
     atRestart e k q = subst (λ (h : When). Come a b (given (endActs a) h e (end r w) (end t v))) k (atFirst q (host e))
 
-  -- in silence
+  -- nothing is on its way, and a timer runs out that waits for that
   pub atSilence : {r t : Record} → (e : Found) → whenGiven e ≡ inSilence → Reached a b (end r []) (end t [])
       → Reached a b (end (stepFound a r e .after) []) (end t (inOrder (stepFound a r e .sends)))
   unfolding does
@@ -144,10 +147,10 @@ pub data SameStage : (outgoing incoming : ℕ) → Type 0 where
 agreed : {r t : Record} {w v : List Signal} → Agree (end r w) (end t v)
     → (SameStage (r .state) (t .state) ⊎ SameStage (t .state) (r .state)) × (t .far ≡ r .own) × (r .far ≡ t .own)
 agreed {r} {t} k = (
-    atStagesEitherWay SameStage idle seized complete free answered cleared (r .state) (t .state) (k .call),
-    marksEqual (t .far) (r .own) (k .blockOfFirst),
-    marksEqual (r .far) (t .own) (k .blockOfSecond),
-  )
+  atStagesEitherWay SameStage idle seized complete free answered cleared (r .state) (t .state) (k .call),
+  marksEqual (t .far) (r .own) (k .blockOfFirst),
+  marksEqual (r .far) (t .own) (k .blockOfSecond),
+)
 
 -- For every circuit number and every two different point codes: whenever nothing is on its way and neither end is in 5 (awaiting release-guard) or
 -- 12 (awaiting reset), both are idle or at the same stage of one call, and each far-block mark equals the other end's own block.
@@ -208,7 +211,7 @@ pub runsShown : runs cases
     ∷ (C (command 1 0) ∷ N arrives ∷ N (command 3 4) ∷ C arrives ∷ N (command 4 0) ∷ C arrives ∷ N (command 5 0) ∷ C (command 10 0) ∷ N arrives ∷ C arrives ∷ [])
     ∷ (C (command 1 0) ∷ N arrives ∷ N (command 3 4) ∷ C arrives ∷ N (command 4 0) ∷ C arrives ∷ C (command 2 0) ∷ N (command 10 0) ∷ C (timer 4) ∷ [])
     ∷ (C (command 1 0) ∷ N arrives ∷ N (command 3 4) ∷ C arrives ∷ N (command 4 0) ∷ C arrives ∷ C (command 2 0) ∷ N (command 10 0) ∷ C (timer 4)
-        ∷ C arrives ∷ C (timer 4) ∷ N arrives ∷ C arrives ∷ [])
+    ∷ C arrives ∷ C (timer 4) ∷ N arrives ∷ C arrives ∷ [])
     ∷ (C (command 1 0) ∷ N arrives ∷ C (timer 1) ∷ [])
     ∷ []
 runsShown = refl
@@ -246,18 +249,21 @@ runsReach = reached
 abbrev exchange : List ℕ → List Signal → Exchange
 exchange table w = record { holds = table; coming = w }
 
+-- the pair is reached
 abbrev Came : (own far cic m n : ℕ) → Both (List ℕ) → Type 0
 Came own far cic m n p = ReachedIn own far cic m n (p .0) (p .1)
 
 module _ {own far cic m n : ℕ} where
+  -- at first both tables are zeros, and nothing is on its way
   pub tablesIdle : ReachedIn own far cic m n (exchange (zeros m) []) (exchange (zeros n) [])
   tablesIdle = ReachedIn.start
 
   module _ {t u : List ℕ} {w v : List Signal} where
+    -- on the circuit: as at two ends, of each event that is not refused 13
     pub tableArrives : {s : Signal} → (stepIn own far t cic (Is (Arrives s)) .answer .refusal ≡ 13 → ⊥)
         → ReachedIn own far cic m n (exchange t (s ∷ w)) (exchange u v)
         → ReachedIn own far cic m n (exchange (stepIn own far t cic (Is (Arrives s)) .table) w)
-            (exchange u (v ++ inOrder (stepIn own far t cic (Is (Arrives s)) .answer .sends)))
+        (exchange u (v ++ inOrder (stepIn own far t cic (Is (Arrives s)) .answer .sends)))
     tableArrives not13 q = ReachedIn.atFirst q (on arrives) not13
 
     module _ (e : Found) (not13 : stepIn own far t cic e .answer .refusal ≡ 13 → ⊥) where
@@ -269,7 +275,7 @@ module _ {own far cic m n : ℕ} where
           → ReachedIn own far cic m n (exchange (stepIn own far t cic e .table) []) (exchange u (inOrder (stepIn own far t cic e .answer .sends)))
       tableAtRestart k q = subst (λ (h : When). Came own far cic m n (given (tableActs own far cic) h e (exchange t w) (exchange u v))) k (ReachedIn.atFirst q (on (host e)) not13)
 
-    -- any event on another circuit of the table
+    -- beside it: any event, signal or not, on another circuit of the table
     pub tableBeside : (i : ℕ) (e : Found) → (i ≡ cic → ⊥) → (stepIn own far t i e .answer .refusal ≡ 13 → ⊥)
         → ReachedIn own far cic m n (exchange t w) (exchange u v)
         → ReachedIn own far cic m n (exchange (stepIn own far t i e .table) w) (exchange u v)
@@ -287,17 +293,18 @@ module _ {own far cic m n : ℕ} where
   pub eitherExchangeFirst : {x y : Exchange} → ReachedIn own far cic m n x y → ReachedIn far own cic n m y x
   eitherExchangeFirst = mirrorTables
 
--- For every two groups with mirrored codes and every circuit that both have.
-pub tablesAgreeToo : (own far cic m n : ℕ) → badGroup own far (recordsIn m) ≡ false → badGroup far own (recordsIn n) ≡ false
+-- For every two groups with mirrored codes and every circuit that both have: what is promised of two ends holds of the circuit's records in the two
+-- tables, whatever happens beside it.
+pub exchangesAgree : (own far cic m n : ℕ) → badGroup own far (recordsIn m) ≡ false → badGroup far own (recordsIn n) ≡ false
     → cic < recordsIn m → cic < recordsIn n
     → (t u : List ℕ) → ReachedIn own far cic m n (exchange t []) (exchange u [])
     → (recordAt t cic .state ≡ 5 → ⊥) → (recordAt t cic .state ≡ 12 → ⊥) → (recordAt u cic .state ≡ 5 → ⊥) → (recordAt u cic .state ≡ 12 → ⊥)
     → (SameStage (recordAt t cic .state) (recordAt u cic .state) ⊎ SameStage (recordAt u cic .state) (recordAt t cic .state))
-        × (recordAt u cic .far ≡ recordAt t cic .own) × (recordAt t cic .far ≡ recordAt u cic .own)
+    × (recordAt u cic .far ≡ recordAt t cic .own) × (recordAt t cic .far ≡ recordAt u cic .own)
 unfolding ClaimIn
-tablesAgreeToo own far cic m n good good' has has' t u q t5 t12 u5 u12 =
+exchangesAgree own far cic m n good good' has has' t u q t5 t12 u5 u12 =
     agreed (tablesAgree own far cic m n good good' has has' (exchange t []) (exchange u []) q refl refl
-      (neitherAwaits (recordAt t cic .state) t5 t12) (neitherAwaits (recordAt u cic .state) u5 u12))
+    (neitherAwaits (recordAt t cic .state) t5 t12) (neitherAwaits (recordAt u cic .state) u5 u12))
 
 -- OVER THE LINK
 
@@ -307,8 +314,8 @@ pub octetsTell : (own far records cic : ℕ) (s : Signal) (category indicators :
     → writing own far records (said cic (headingOf s) (octetOf s) category indicators address) buffer .answer .refusal ≡ 0
     → (theirs : ℕ) → badGroup far own theirs ≡ false → cic < theirs
     → let sent = writing own far records (said cic (headingOf s) (octetOf s) category indicators address) buffer in
-      let heard = reading far own theirs (take (sent .answer .length) (sent .buffer)) in
-      (heard .refusal ≡ 0) × (heard .message .circuit .0 ≡ cic) × (heard .message .signal ≡ Known s)
+    let heard = reading far own theirs (take (sent .answer .length) (sent .buffer)) in
+    (heard .refusal ≡ 0) × (heard .message .circuit .0 ≡ cic) × (heard .message .signal ≡ Known s)
 octetsTell own far records cic s category indicators address buffer ok theirs group has = (told .taken, told .circuit, told .signal)
   where
     told : Told cic s (reading far own theirs (onTheLink own far records (saying cic s category indicators address) buffer))
