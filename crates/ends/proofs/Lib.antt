@@ -2,6 +2,7 @@
 -- Words: a queue as the run of its words. Events: every record and event, as finite lists. Moves: the call's part of a step, as a table.
 -- Rooms: what the two ends' runs may be together. Sound: rooms speak for queues of any length. Explored: the rooms, found and tested.
 -- Marks: the blocks. Standing: both hold of every pair that is reached. Claim, Heard: the two claims.
+-- Plain: their tests as plain facts. Cases: pairs that are reached.
 pub mod Words
 pub mod Events
 pub mod Moves
@@ -12,3 +13,5 @@ pub mod Marks
 pub mod Standing
 pub mod Claim
 pub mod Heard
+pub mod Plain
+pub mod Cases

@@ -18,7 +18,8 @@ use Rattle.circuit.proofs.Every.{left, right, then, eachBool, atBool}
 use Rattle.codes.specs.declared.Found.{Found}
 use Rattle.codes.specs.declared.Found.the-variants.{Is}
 use Rattle.step.specs.Step.{step, stepFound}
-use Rattle.ends.specs.Ends.{End, does, inOrder, Pair, acted, arrival, When, When.anyTime, When.inSilence, When.losingAll, When.never, whenGiven, silence, emptied, given, marks, Happening, Happening.arrives, Happening.host, turn}
+use Rattle.ends.specs.Machine.{inOrder, acted, arrival, When, When.anyTime, When.inSilence, When.losingAll, When.never, whenGiven, silence, emptied, given, Happening, Happening.arrives, Happening.host, turn}
+use Rattle.ends.specs.Ends.{End, Pair, does, seen, endActs, marks}
 use Rattle.ends.proofs.Words.{blo, ubl, rsc, word, heard, heard-more, sameBool}
 use Rattle.ends.proofs.Events.{said, alike, everywhere, atWord, atHost}
 
@@ -130,12 +131,12 @@ back-kept own true false w z sent u k f h = by own z k h
     by false z k h = told-fewer w h
 
 -- an end acts, and what it does has passed the test
-acts : (r : Record) (z : Bool) (rest : List Signal) (far : Bool) (other : End) (o : Outcome)
+keepsMarks : (r : Record) (z : Bool) (rest : List Signal) (far : Bool) (other : End) (o : Outcome)
     → T (inStep (r .own) (told (other .holds .far) (heard (other .coming))) z)
     → T (inStep (other .holds .own) (told far (heard rest)) (resetIn (heard (other .coming))))
     → T (valid (other .holds)) → T (keeps r (told (other .holds .far) (heard (other .coming))) z (resetIn (heard rest)) far o)
-    → MarksPair (acted o rest other)
-acts r z rest far other o there back yours test = record {
+    → MarksPair (acted (seen o) rest other)
+keepsMarks r z rest far other o there back yours test = record {
   there = rw (more, told-more (other .holds .far) due (wordsOf o)) (then (inStep (r .own) M z) _ (left kept _ test) there);
   back = rw more (back-kept (other .holds .own) far (o .after .far) (heard rest) (resetIn due) (resetIn (wordsOf o)) _ (reset-more due (wordsOf o)) (right (valid (o .after)) _ two) back);
   mine = left (valid (o .after)) _ two;
@@ -161,9 +162,9 @@ module _ (c : Bool) (other : End) where
   abbrev N : Bool
   N = told (other .holds .far) (heard (other .coming))
 
-  arrived : (r : Record) (q : List Signal) → Marks (record { holds = r; coming = q }) other → MarksPair (arrival c r q other)
+  arrived : (r : Record) (q : List Signal) → Marks (record { holds = r; coming = q }) other → MarksPair (arrival (endActs c) r q other)
   arrived r [] i = i
-  arrived r (x ∷ rest) i = acts r (eqb (word x) rsc || Z) rest (marked (r .far) (word x)) other (does c r (Is (Arrives x))) (i .there) (i .back) (i .yours)
+  arrived r (x ∷ rest) i = keepsMarks r (eqb (word x) rsc || Z) rest (marked (r .far) (word x)) other (does c r (Is (Arrives x))) (i .there) (i .back) (i .yours)
       (rw (alike c r x) (atBool (keeping N) (atBool (λ m. eachBool (keeping m)) (atWord wordKeeps hostKeeps kept-in-step c r (i .mine) x) N) Z))
     where
       Z : Bool
@@ -173,7 +174,7 @@ module _ (c : Bool) (other : End) where
       keeping m z = keeps r m (eqb (word x) rsc || z) z (marked (r .far) (word x)) (does c r (Is (Arrives (said (word x)))))
 
   -- everything on its way is lost
-  lost : (o : Outcome) → T (valid (other .holds)) → T (eachBool (λ m. clears m o)) → MarksPair (acted o [] (emptied other))
+  lost : (o : Outcome) → T (valid (other .holds)) → T (eachBool (λ m. clears m o)) → MarksPair (acted (seen o) [] (emptied other))
   lost o yours test = record {
     there = left (inStep (o .after .own) (told (other .holds .far) (wordsOf o)) false) _ one;
     back = by (other .holds .own) (o .after .far) (resetIn (wordsOf o)) (right (valid (o .after)) _ two);
@@ -194,24 +195,24 @@ module _ (c : Bool) (other : End) where
       by false false z t = tt
       by false true z t = absurd t
 
-  plainly : (me : End) → Marks me other → (o : Outcome) → T (hostKeepsWhen anyTime (me .holds) o) → MarksPair (acted o (me .coming) other)
-  plainly me i o test = acts (me .holds) (resetIn (heard (me .coming))) (me .coming) (me .holds .far) other o (i .there) (i .back) (i .yours)
+  plainly : (me : End) → Marks me other → (o : Outcome) → T (hostKeepsWhen anyTime (me .holds) o) → MarksPair (acted (seen o) (me .coming) other)
+  plainly me i o test = keepsMarks (me .holds) (resetIn (heard (me .coming))) (me .coming) (me .holds .far) other o (i .there) (i .back) (i .yours)
       (atBool (keeping N) (atBool (λ m. eachBool (keeping m)) test N) (resetIn (heard (me .coming))))
     where
       keeping : Bool → Bool → Bool
       keeping m z = keeps (me .holds) m z z (me .holds .far) o
 
-  hosted : (me : End) → Marks me other → (e : Found) (w : When) → T (hostKeepsWhen w (me .holds) (does c (me .holds) e)) → MarksPair (given w c e me other)
+  hosted : (me : End) → Marks me other → (e : Found) (w : When) → T (hostKeepsWhen w (me .holds) (does c (me .holds) e)) → MarksPair (given (endActs c) w e me other)
   hosted me i e anyTime test = plainly me i (does c (me .holds) e) test
   hosted me i e inSilence test = by (silence me other)
     where
-      by : (s : Bool) → MarksPair (cond s (acted (does c (me .holds) e) (me .coming) other) (me, other))
+      by : (s : Bool) → MarksPair (cond s (acted (endActs c (me .holds) e) (me .coming) other) (me, other))
       by true = plainly me i (does c (me .holds) e) test
       by false = i
   hosted me i e losingAll test = lost (does c (me .holds) e) (i .yours) test
   hosted me i e never test = i
 
-  pub turned : (me : End) → Marks me other → (h : Happening) → MarksPair (turn c h me other)
+  pub turned : (me : End) → Marks me other → (h : Happening) → MarksPair (turn (endActs c) h me other)
   turned me i arrives = arrived (me .holds) (me .coming) i
   turned me i (host e) = hosted me i e (whenGiven e) (atHost wordKeeps hostKeeps kept-in-step c (me .holds) (i .mine) (λ x. tt) e)
 

@@ -5,7 +5,8 @@ use mathlib.Core.Bool.{Bool, true, false, cond, not, _&&_, _||_}
 use mathlib.Core.List.{List, [], _∷_, _++_}
 use Prim.Native.Nat.{ℕ}
 use lib.Dec.{eqb}
-use Rattle.ends.specs.Ends.{sameStage, awaits, unheard, When.anyTime, When.inSilence, When.losingAll}
+use Rattle.ends.specs.Machine.{When.anyTime, When.inSilence, When.losingAll}
+use Rattle.ends.specs.Ends.{sameStage, awaits, unheard}
 use Rattle.ends.proofs.Words.{words, blo, mute, quiet, next, Run, Run.ran, run, restOf, Half, Half.half, sameHalf, joinAll, endOf, reach, outgoing, allIn, member, has, family, absorbs}
 use Rattle.ends.proofs.Events.{said}
 use Rattle.ends.proofs.Moves.{Move, Move.to, Table, causeOf}

@@ -6,7 +6,7 @@ use mathlib.Core.Path.{_≡_, refl}
 use Prim.Native.Nat.{ℕ}
 use lib.Dec.{T, eqb, eqb→eq, eqb-refl}
 use Rattle.circuit.proofs.Every.{left, right, both, isTrue}
-use Rattle.ends.specs.Ends.{When.anyTime, When.inSilence, When.losingAll}
+use Rattle.ends.specs.Machine.{When.anyTime, When.inSilence, When.losingAll}
 use Rattle.ends.proofs.Words.{words, blo, mute, kept, bloIn, quiet, next, Run, Run.ran, run, Half, Half.half, runOf, restOf, bloFor, view, sameHalf, same-half, joinAll, joined, allIn, member, at-member, has, family, absorbs, run-absorbs, endOf, reach, outgoing, run-ends}
 use Rattle.ends.proofs.Moves.{Move, Move.to, Table, among, sameMove, same-move, causeOf}
 use Rattle.ends.proofs.Rooms.{Room, Need, Need.room, Need.impossible, over, comes, goes, glides, takesRest, takes, afresh, byWords, byHost, byLoss, bySilence, follows, sound, sameRoom, listed, inRole, meets, closedAt, closed}

@@ -15,7 +15,8 @@ use Rattle.circuit.proofs.Groups.{oneControls}
 use Rattle.circuit.proofs.Every.{left, right}
 use Rattle.codes.specs.declared.Found.{Found}
 use Rattle.codes.specs.declared.Found.the-variants.{Is}
-use Rattle.ends.specs.Ends.{End, does, inOrder, Pair, acted, arrival, When, When.anyTime, When.inSilence, When.losingAll, When.never, whenGiven, empty, silence, given, Happening, Happening.arrives, Happening.host, turn, Reached, Reached.start, Reached.atFirst, Reached.atSecond}
+use Rattle.ends.specs.Machine.{inOrder, acted, arrival, When, When.anyTime, When.inSilence, When.losingAll, When.never, whenGiven, empty, silence, given, Happening, Happening.arrives, Happening.host, turn}
+use Rattle.ends.specs.Ends.{End, Pair, does, seen, endActs, Reached, Reached.start, Reached.atFirst, Reached.atSecond}
 use Rattle.ends.proofs.Words.{word, heard, heard-more}
 use Rattle.ends.proofs.Events.{isWord}
 use Rattle.ends.proofs.Moves.{moveOf, Table, byCause, columns, look, completed, word-listed, host-listed}
@@ -46,11 +47,11 @@ abbrev StandPair : Bool → Pair → Type 0
 StandPair c p = Stand c (p .0) (p .1)
 
 landed : (c : Bool) (o : Outcome) (rest : List Signal) (other : End) → Lands rooms c (heard rest) (stateOf other) (due other) (moveOf o)
-    → StandPair c (acted o rest other)
+    → StandPair c (acted (seen o) rest other)
 landed c o rest other h = rw (heard-more (other .coming) (inOrder (o .sends))) h
 
 module _ (c : Bool) (other : End) where
-  arrived : (r : Record) (q : List Signal) → T (valid r) → Stand c (record { holds = r; coming = q }) other → StandPair c (arrival c r q other)
+  arrived : (r : Record) (q : List Signal) → T (valid r) → Stand c (record { holds = r; coming = q }) other → StandPair c (arrival (endActs c) r q other)
   unfolding table
   arrived r [] v i = i
   arrived r (x ∷ rest) v i = landed c o rest other
@@ -61,7 +62,7 @@ module _ (c : Bool) (other : End) where
 
   -- in silence
   still : (r : Record) (o : Outcome) (q v : List Signal) (t : Record) → T (empty q && empty v) → T (byCause inSilence (moveOf o) (table c (r .state)))
-      → Stand c (record { holds = r; coming = q }) (record { holds = t; coming = v }) → StandPair c (acted o q (record { holds = t; coming = v }))
+      → Stand c (record { holds = r; coming = q }) (record { holds = t; coming = v }) → StandPair c (acted (seen o) q (record { holds = t; coming = v }))
   still r o [] [] t e m i = by-silence table rooms shut c (r .state) (t .state) i (moveOf o) m
   still r o [] (y ∷ v) t e m i = absurd e
   still r o (x ∷ q) v t e m i = absurd e
@@ -70,17 +71,17 @@ module _ (c : Bool) (other : End) where
     abbrev o : Outcome
     o = does c (me .holds) e
 
-    hosted : (w : When) → T (byCause w (moveOf o) (table c (stateOf me))) → StandPair c (given w c e me other)
+    hosted : (w : When) → T (byCause w (moveOf o) (table c (stateOf me))) → StandPair c (given (endActs c) w e me other)
     hosted anyTime m = landed c o (me .coming) other (by-host table rooms shut c (stateOf me) (due me) (stateOf other) (due other) i (moveOf o) m)
     hosted inSilence m = by (silence me other) (λ s. still (me .holds) o (me .coming) (other .coming) (other .holds) s m i)
       where
-        by : (s : Bool) → (T s → StandPair c (acted o (me .coming) other)) → StandPair c (cond s (acted o (me .coming) other) (me, other))
+        by : (s : Bool) → (T s → StandPair c (acted (seen o) (me .coming) other)) → StandPair c (cond s (acted (seen o) (me .coming) other) (me, other))
         by true k = k tt
         by false k = i
     hosted losingAll m = by-loss table rooms shut c (stateOf me) (due me) (stateOf other) (due other) i (moveOf o) m
     hosted never m = i
 
-  stands : (me : End) → T (valid (me .holds)) → Stand c me other → (h : Happening) → StandPair c (turn c h me other)
+  stands : (me : End) → T (valid (me .holds)) → Stand c me other → (h : Happening) → StandPair c (turn (endActs c) h me other)
   unfolding table
   stands me v i arrives = arrived (me .holds) (me .coming) v i
   stands me v i (host e) = hosted me e i (whenGiven e) (host-listed table completed c (me .holds) v e)
@@ -102,7 +103,7 @@ holds (atFirst {x = x} {y = y} r h) =
     record { blocks = turned true y x (i .blocks) h; calls = stands true y x (i .blocks .mine) (i .calls) h }
 holds (atSecond {x = x} {y = y} r h) =
     let i : Holds x y = holds r in
-    let p : Pair = turn false h y x in
+    let p : Pair = turn (endActs false) h y x in
     record {
       blocks = swapped (turned false x y (swapped (i .blocks)) h);
       calls = mirrored false (p .0) (p .1) (stands false x y (i .blocks .yours) (mirrored true x y (i .calls)) h);

@@ -8,7 +8,7 @@ use Prim.Native.Nat.{ℕ, suc}
 use lib.Dec.{T, eqb, leb, eqb→eq}
 use Rattle.circuit.specs.declared.Signal.{Signal}
 use Rattle.circuit.specs.declared.Signal.the-variants.{Iam, Acm, Anc, Ann, Cbk, Clf, Ran, Rlg, Blo, Bla, Ubl, Uba, Rsc, Fail}
-use Rattle.circuit.proofs.Every.{left, right, both, isTrue, eachBool, atBool}
+use Rattle.circuit.proofs.Every.{left, right, isTrue, eachBool, atBool}
 
 -- The words. ANC and ANN are one, and so are the failures. The four that change no call come last, and state s of an outgoing call goes on by
 -- word s: 1 by ACM, 2 by an answer, 3 by CBK, 4 by RAN.

@@ -1,16 +1,16 @@
--- Pairs of ends that are reached, each with the steps that lead to it: the claims of `Ends` do not speak of nothing.
+-- Pairs of ends that are reached, each with the run that leads to it: the claims of `Ends` do not speak of nothing.
 -- Assumes nothing.
 use mathlib.Core.Bool.{true, false}
 use mathlib.Core.List.{List, [], _∷_, _++_}
-use mathlib.Core.Path.{_≡_, refl}
 use Prim.Native.Nat.{ℕ}
+use Rattle.circuit.specs.declared.Failure.the-variants.{Ssb}
 use Rattle.circuit.specs.declared.Record.{Record}
-use Rattle.circuit.specs.declared.Signal.the-variants.{Rsc}
+use Rattle.circuit.specs.declared.Signal.{Signal}
+use Rattle.circuit.specs.declared.Signal.the-variants.{Clf, Rsc, Fail}
 use Rattle.circuit.specs.Records.{rec, plain}
-use Rattle.circuit.specs.Rows.{first}
 use Rattle.codes.specs.Numbers.{eventOf}
-use Rattle.step.specs.Step.{step, stepFound}
-use Rattle.ends.specs.Ends.{End, idle, does, Pair, When, When.anyTime, When.inSilence, When.losingAll, whenGiven, Happening, Happening.arrives, Happening.host, turn, Reached, Reached.start, Reached.atFirst, Reached.atSecond}
+use Rattle.ends.specs.Machine.{Happening, Happening.arrives, Happening.host, turn}
+use Rattle.ends.specs.Ends.{End, idle, Pair, endActs}
 
 -- what happens at the controlling end, or at the other
 pub data Step : Type 0 where
@@ -18,39 +18,43 @@ pub data Step : Type 0 where
 
 abbrev pub after : End → End → List Step → Pair
 after c n [] = (c, n)
-after c n (C h ∷ steps) = after (turn true h c n .0) (turn true h c n .1) steps
-after c n (N h ∷ steps) = after (turn false h n c .1) (turn false h n c .0) steps
-
--- whatever the steps, the pair after them is reached
-pub goesOn : (steps : List Step) {c n : End} → Reached true false c n → Reached true false (after c n steps .0) (after c n steps .1)
-goesOn [] r = r
-goesOn (C h ∷ steps) r = goesOn steps (atFirst r h)
-goesOn (N h ∷ steps) r = goesOn steps (atSecond r h)
+after c n (C h ∷ steps) = after (turn (endActs true) h c n .0) (turn (endActs true) h c n .1) steps
+after c n (N h ∷ steps) = after (turn (endActs false) h n c .1) (turn (endActs false) h n c .0) steps
 
 -- the host's events by their numbers
-abbrev command : ℕ → ℕ → Happening
+abbrev pub command : ℕ → ℕ → Happening
 command code detail = host (eventOf 2 code detail)
 
-abbrev timer : ℕ → Happening
+abbrev pub timer : ℕ → Happening
 timer code = host (eventOf 3 code 0)
 
--- command 10 loses all, timers 4, 5 and 6 wait for silence, the others come at any time; here with detail 0
-abbrev times : ℕ → List ℕ → List When
-times kind [] = []
-times kind (code ∷ codes) = whenGiven (eventOf kind code 0) ∷ times kind codes
+-- seize
+abbrev seized : List Step
+seized = C (command 1 0) ∷ N arrives ∷ []
 
-pub commandTimes : times 2 (1 ∷ 2 ∷ 3 ∷ 4 ∷ 5 ∷ 6 ∷ 8 ∷ 9 ∷ 10 ∷ [])
-    ≡ anyTime ∷ anyTime ∷ anyTime ∷ anyTime ∷ anyTime ∷ anyTime ∷ anyTime ∷ anyTime ∷ losingAll ∷ []
-unfolding eventOf
-commandTimes = refl
+-- address complete
+abbrev complete : List Step
+complete = seized ++ (N (command 3 0) ∷ C arrives ∷ [])
 
-pub timerTimes : times 3 (1 ∷ 2 ∷ 3 ∷ 4 ∷ 5 ∷ 6 ∷ []) ≡ anyTime ∷ anyTime ∷ anyTime ∷ inSilence ∷ inSilence ∷ inSilence ∷ []
-unfolding eventOf
-timerTimes = refl
+-- address complete with subscriber free
+abbrev free : List Step
+free = seized ++ (N (command 3 4) ∷ C arrives ∷ [])
 
--- seize, address complete with subscriber free, answer
+-- answer
 abbrev answered : List Step
-answered = C (command 1 0) ∷ N arrives ∷ N (command 3 4) ∷ C arrives ∷ N (command 4 0) ∷ C arrives ∷ []
+answered = free ++ (N (command 4 0) ∷ C arrives ∷ [])
+
+-- clear-back
+abbrev cleared : List Step
+cleared = answered ++ (N (command 5 0) ∷ C arrives ∷ [])
+
+-- release: CLF and RLG
+abbrev released : List Step
+released = answered ++ (C (command 2 0) ∷ N arrives ∷ C arrives ∷ [])
+
+-- fail call, SSB: the other end waits in 11 for CLF
+abbrev failed : List Step
+failed = seized ++ (N (command 7 0x65) ∷ [])
 
 -- both ends seize, and their IAMs cross
 abbrev dualSeizure : List Step
@@ -59,6 +63,14 @@ dualSeizure = C (command 1 0) ∷ N (command 1 0) ∷ N arrives ∷ C arrives �
 -- block: BLO and BLA arrive; a seizure is then refused
 abbrev blocked : List Step
 blocked = N (command 8 0) ∷ C arrives ∷ N arrives ∷ C (command 1 0) ∷ []
+
+-- the other end blocks as well
+abbrev blockedTwice : List Step
+blockedTwice = blocked ++ (C (command 8 0) ∷ N arrives ∷ C arrives ∷ [])
+
+-- and the first unblocks
+abbrev unblocked : List Step
+unblocked = blockedTwice ++ (N (command 9 0) ∷ C arrives ∷ N arrives ∷ [])
 
 -- a BLO and an IAM cross: the BLO ends the call, the IAM is answered by another BLO
 abbrev crossed : List Step
@@ -76,9 +88,17 @@ clfLost = answered ++ (C (command 2 0) ∷ N (command 10 0) ∷ C (timer 4) ∷ 
 abbrev repeated : List Step
 repeated = clfLost ++ (C arrives ∷ C (timer 4) ∷ N arrives ∷ C arrives ∷ [])
 
+-- no address complete comes: timer 1 runs out
+abbrev timedOut : List Step
+timedOut = seized ++ (C (timer 1) ∷ [])
+
+-- with these signals on their way
+abbrev pub underWay : (c : Record) → List Signal → (n : Record) → List Signal → Pair
+underWay c w n v = (record { holds = c; coming = w }, record { holds = n; coming = v })
+
 -- with nothing on its way
-abbrev atRest : (c n : Record) → Pair
-atRest c n = (record { holds = c; coming = [] }, record { holds = n; coming = [] })
+abbrev pub atRest : (c n : Record) → Pair
+atRest c n = underWay c [] n []
 
 pub record Case : Type 0 where
   pub steps : List Step
@@ -86,27 +106,33 @@ pub record Case : Type 0 where
 
 abbrev pub cases : List Case
 cases =
-    record { steps = answered; pair = atRest (plain 3) (plain 9) }
+    record { steps = seized; pair = atRest (plain 1) (plain 6) }
+    ∷ record { steps = complete; pair = atRest (plain 2) (plain 7) }
+    ∷ record { steps = free; pair = atRest (plain 2) (plain 8) }
+    ∷ record { steps = answered; pair = atRest (plain 3) (plain 9) }
+    ∷ record { steps = cleared; pair = atRest (plain 4) (plain 10) }
+    ∷ record { steps = released; pair = atRest (plain 0) (plain 0) }
+    ∷ record { steps = failed; pair = underWay (plain 1) (Fail Ssb ∷ []) (plain 11) [] }
     ∷ record { steps = dualSeizure; pair = atRest (plain 1) (plain 6) }
     ∷ record { steps = blocked; pair = atRest (rec 0 false true false false) (rec 0 true false false false) }
+    ∷ record { steps = blockedTwice; pair = atRest (rec 0 true true false false) (rec 0 true true false false) }
+    ∷ record { steps = unblocked; pair = atRest (rec 0 true false false false) (rec 0 false true false false) }
     ∷ record { steps = crossed; pair = atRest (rec 0 false true false false) (rec 0 true false false false) }
     ∷ record { steps = restarted; pair = atRest (plain 0) (plain 0) }
-    ∷ record { steps = clfLost; pair = (record { holds = plain 5; coming = Rsc ∷ [] }, record { holds = plain 12; coming = [] }) }
+    ∷ record { steps = clfLost; pair = underWay (plain 5) (Rsc ∷ []) (plain 12) [] }
     ∷ record { steps = repeated; pair = atRest (plain 0) (plain 0) }
+    ∷ record { steps = timedOut; pair = underWay (plain 5) [] (plain 6) (Clf ∷ []) }
     ∷ []
 
-abbrev led : List Case → List Pair
+-- the runs, the pairs to which they lead, and the pairs that are told
+abbrev pub runs : List Case → List (List Step)
+runs [] = []
+runs (k ∷ l) = k .steps ∷ runs l
+
+abbrev pub led : List Case → List Pair
 led [] = []
 led (k ∷ l) = after idle idle (k .steps) ∷ led l
 
-abbrev told : List Case → List Pair
+abbrev pub told : List Case → List Pair
 told [] = []
 told (k ∷ l) = k .pair ∷ told l
-
--- each case's steps lead to its pair, which is therefore reached
-pub asTold : led cases ≡ told cases
-unfolding eventOf does stepFound step first
-asTold = refl
-
-pub reached : (k : Case) → Reached true false (after idle idle (k .steps) .0) (after idle idle (k .steps) .1)
-reached k = goesOn (k .steps) start

@@ -1,31 +1,28 @@
--- Two ends of one circuit: what can happen to the pair, and what is claimed of it (document 01, demand 3).
--- An end has a record, and the signals on their way to it stand in a queue of any length, the oldest first.
+-- Two ends of one circuit: what is claimed of them (document 01, demand 3). What can happen to the pair is `Machine`, of ends that hold a record.
+-- How it is proved: all that two ends and their queues can be is told by 119 rooms, found by following every event; one computed test shows that no
+-- event leads out of them, and that the ends agree in each of them. `proofs/Lib.antt` leads through: Words and Rooms say what a room is,
+-- Sound that rooms speak for queues of any length, Explored finds and tests them, Marks has the blocks, Claim and Heard the two theorems.
 -- Assumes nothing.
-use mathlib.Core.Bool.{Bool, true, false, cond, not, _&&_, _||_}
-use mathlib.Core.List.{List, [], _∷_, _++_}
+use mathlib.Core.Bool.{Bool, true, false, not, _&&_, _||_}
+use mathlib.Core.List.{List, [], _∷_}
 use mathlib.Core.Path.{_≡_}
 use Prim.Native.Nat.{ℕ}
 use lib.Dec.{T, eqb, leb}
 use Rattle.circuit.specs.declared.Record.{Record}
 use Rattle.circuit.specs.declared.Signal.{Signal}
 use Rattle.circuit.specs.declared.Signal.the-variants.{Iam, Acm, Anc, Ann, Cbk, Clf, Ran, Rlg, Blo, Bla, Ubl, Uba, Rsc, Fail}
-use Rattle.circuit.specs.declared.Command.{Command}
-use Rattle.circuit.specs.declared.Command.the-variants.{Seize, Release, AddressComplete, Answer, ClearBack, ReAnswer, FailCall, Block, Unblock, Restart}
-use Rattle.circuit.specs.declared.Timer.{Timer}
-use Rattle.circuit.specs.declared.Timer.the-variants.{AddressWait, AnswerWait, IncomingHangUp, Repeat, OneMinute, BlockRepeat}
-use Rattle.circuit.specs.declared.Event.the-variants.{Arrives, Ordered, RunsOut}
-use Rattle.circuit.specs.declared.Sends.{Sends}
-use Rattle.circuit.specs.declared.Sends.the-variants.{Nothing, One, Two}
 use Rattle.circuit.specs.declared.Outcome.{Outcome}
 use Rattle.circuit.specs.Records.{plain}
 use Rattle.circuit.specs.Groups.{controls}
 use Rattle.codes.specs.declared.Found.{Found}
-use Rattle.codes.specs.declared.Found.the-variants.{Is, Missing}
 use Rattle.step.specs.Step.{stepFound}
+use Rattle.ends.specs.Machine.{Party, Both, Effect, Happening, turn}
 
-pub record End : Type 0 where
-  pub holds : Record
-  pub coming : List Signal
+abbrev pub End : Type 0
+End = Party Record
+
+abbrev pub Pair : Type 0
+Pair = Both Record
 
 -- idle, no flag, nothing on its way
 abbrev pub idle : End
@@ -35,87 +32,18 @@ idle = record { holds = plain 0; coming = [] }
 unfoldable pub does : (c : Bool) → Record → Found → Outcome
 does c r e = stepFound c r e
 
-abbrev pub inOrder : Sends → List Signal
-inOrder Nothing = []
-inOrder (One s) = s ∷ []
-inOrder (Two s t) = s ∷ t ∷ []
+-- of that, what the pair sees: the new record, a refusal the old one, and what is sent
+abbrev pub seen : Outcome → Effect Record
+seen o = record { after = o .after; sends = o .sends }
 
--- the end where something happened, and the other end
-abbrev pub Pair : Type 0
-Pair = End × End
-
--- the end has its new record, a refusal the old one; `rest` is still on its way to it, and what it sends comes last in the other's queue
-abbrev pub acted : Outcome → (rest : List Signal) → (other : End) → Pair
-acted o rest other = (record { holds = o .after; coming = rest }, record { holds = other .holds; coming = other .coming ++ inOrder (o .sends) })
-
--- the signal at the head of the queue arrives
-abbrev pub arrival : (c : Bool) → Record → List Signal → (other : End) → Pair
-arrival c r [] other = (record { holds = r; coming = [] }, other)
-arrival c r (s ∷ rest) other = acted (does c r (Is (Arrives s))) rest other
-
--- when the host can let an event happen, and with what loss
-pub data When : Type 0 where
-  anyTime inSilence losingAll never : When
-
--- command 10 loses all that is on its way
-abbrev pub whenOrdered : Command → When
-whenOrdered Seize = anyTime
-whenOrdered Release = anyTime
-whenOrdered (AddressComplete t free) = anyTime
-whenOrdered (Answer charging) = anyTime
-whenOrdered ClearBack = anyTime
-whenOrdered ReAnswer = anyTime
-whenOrdered (FailCall f) = anyTime
-whenOrdered Block = anyTime
-whenOrdered Unblock = anyTime
-whenOrdered Restart = losingAll
-
--- timers 4, 5 and 6 run out only while nothing is on its way
-abbrev pub whenRunsOut : Timer → When
-whenRunsOut AddressWait = anyTime
-whenRunsOut AnswerWait = anyTime
-whenRunsOut IncomingHangUp = anyTime
-whenRunsOut Repeat = inSilence
-whenRunsOut OneMinute = inSilence
-whenRunsOut BlockRepeat = inSilence
-
--- signals come from the other end, never from the host; numbers that name no event are refused whenever they come
-abbrev pub whenGiven : Found → When
-whenGiven (Is (Arrives s)) = never
-whenGiven (Is (Ordered k)) = whenOrdered k
-whenGiven (Is (RunsOut t)) = whenRunsOut t
-whenGiven Missing = anyTime
-
-abbrev pub empty : List Signal → Bool
-empty [] = true
-empty (s ∷ rest) = false
-
-abbrev pub silence : End → End → Bool
-silence me other = empty (me .coming) && empty (other .coming)
-
-abbrev pub emptied : End → End
-emptied e = record { holds = e .holds; coming = [] }
-
-abbrev pub given : When → (c : Bool) → Found → (me other : End) → Pair
-given anyTime c e me other = acted (does c (me .holds) e) (me .coming) other
-given inSilence c e me other = cond (silence me other) (acted (does c (me .holds) e) (me .coming) other) (me, other)
-given losingAll c e me other = acted (does c (me .holds) e) [] (emptied other)
-given never c e me other = (me, other)
-
--- What can happen at an end. The host's event may come by any numbers: it is then `eventOf kind code detail` of the crate `codes`.
-pub data Happening : Type 0 where
-  arrives : Happening
-  host : Found → Happening
-
-abbrev pub turn : (c : Bool) → Happening → (me other : End) → Pair
-turn c arrives me other = arrival c (me .holds) (me .coming) other
-turn c (host e) me other = given (whenGiven e) c e me other
+abbrev pub endActs : (c : Bool) → Record → Found → Effect Record
+endActs c r e = seen (does c r e)
 
 -- The pairs that are reached from two idle ends with nothing on its way; a, b: whether the first and the second end control the circuit.
 pub data Reached (a b : Bool) : End → End → Type 0 where
   start : Reached a b idle idle
-  atFirst : {x y : End} → Reached a b x y → (h : Happening) → Reached a b (turn a h x y .0) (turn a h x y .1)
-  atSecond : {x y : End} → Reached a b x y → (h : Happening) → Reached a b (turn b h y x .1) (turn b h y x .0)
+  atFirst : {x y : End} → Reached a b x y → (h : Happening) → Reached a b (turn (endActs a) h x y .0) (turn (endActs a) h x y .1)
+  atSecond : {x y : End} → Reached a b x y → (h : Happening) → Reached a b (turn (endActs b) h y x .1) (turn (endActs b) h y x .0)
 
 -- both idle, or the first outgoing and the second incoming at the same stage
 abbrev pub sameStage : ℕ → ℕ → Bool
