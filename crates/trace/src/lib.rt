@@ -12,9 +12,14 @@ ghost use Prim.Native.Nat.{_+_, _-_, _^_, _≤_, _<_, min};
 ghost use lib.ListN.{length, drop};
 ghost use Rattle.text.specs.Writing.{Printed, inRoom};
 ghost use Rattle.words.specs.Octets.{over};
+ghost use Rattle.words.specs.Words.{largest};
 ghost use Rattle.records.specs.Records.{item};
 ghost use Rattle.trace.specs.Replay.{lineOf, onward, opened};
-ghost use Rattle.trace.specs.Feed.{noTurn, turnOf, shareOf, share, stageAt, answerOf, run, stays, begins, fed, isOver, tableOctets, lastLine, kept};
+ghost use Rattle.trace.specs.Feed.{shareOf, share, stageAt, answerOf, run, stays, begins, fed, isOver, tableOctets, lastLine, kept};
+ghost use Rattle.trace.specs.Way.{noTurn, turnOf};
+
+// The largest ordinal; an event that has it is not taken, since none could follow.
+const LAST: u64 = 0xffffffffffffffff;
 
 // A replay behind its group: the two codes, how many circuits there are, and the next event's ordinal.
 pub struct Running {
@@ -111,14 +116,14 @@ fn one_event(r: Running, table: &mut [u8], part: &[u8], at: usize, room: &mut [u
     if room.len() < text::LINE {
         return no_turn();
     }
-    if r.next == 18446744073709551615 {
+    if r.next == LAST {
         return no_turn();
     }
     one_item(records::record_at(part, at), r, table, room)
 }
 
 fn onward(r: Running) -> Running
-    requires { ⌜ r .next < 18446744073709551615 ⌝ }
+    requires { ⌜ r .next < largest ⌝ }
     ensures { λ q. ⌜ q ≡ onward r ⌝ }
 {
     let own = r.own;

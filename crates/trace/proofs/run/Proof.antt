@@ -4,8 +4,8 @@ use Rattle.trace.specs.Feed.{share}
 use Rattle.trace.specs.declared.Turn.{Turn}
 use borrow.Rule.Slice.PartMut.{midOf, same-len-mid}
 use mathlib.Core.Path.{refl, sym, ap, _∙_}
-use Rattle.trace.proofs.Runs.{Sofar, first, again, stopped, takenIn, writtenIn}
-use Rattle.trace.specs.Runs.{ordinal}
+use Rattle.trace.proofs.Loop.{Sofar, first, again, stopped, takenIn, writtenIn}
+use Rattle.trace.proofs.Runs.{ordinal}
 use native.Mathlib.Omega.{arith}
 use borrow.Author.Needs.{needs}
 use lib.ListN.{length, drop}
