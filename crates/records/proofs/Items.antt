@@ -13,8 +13,9 @@ use lib.Seq.{getD-drop}
 use borrow.Author.Tests.{eq-eqb, ne-eqb, eqb-true, eqb-false, ltb-true, ltb-false, lt-ltb, le-ltb}
 use Rattle.text.proofs.Numbers.{byTest}
 use Rattle.records.specs.declared.Recorded.{Recorded}
+use Rattle.records.specs.declared.Item.{Item}
 use Rattle.records.specs.declared.Item.the-variants.{Event, NoEvent, Short, End}
-use Rattle.records.specs.Records.{octet, noEvent, octetsOf, detailOf, recorded, item}
+use Rattle.records.specs.Records.{octet, noEvent, octetsOf, detailOf, recorded, item, takenOf, behind}
 
 -- the cases of `item`, by its own tests
 module _ (s : List ℕ) where
@@ -136,8 +137,11 @@ module _ (s rest : List ℕ) where
 pub octet-drop : (s : List ℕ) (at i : ℕ) → octet (drop at s) i ≡ octet s (at + i)
 octet-drop s at i = getD-drop at s i 0
 
+pub octet-first : (s : List ℕ) (at : ℕ) → octet s (at + 0) ≡ octet s at
+octet-first s at = ap (octet s) (add-zero at)
+
 pub octet-here : (s : List ℕ) (at : ℕ) → octet (drop at s) 0 ≡ octet s at
-octet-here s at = octet-drop s at 0 ∙ ap (octet s) (add-zero at)
+octet-here s at = octet-drop s at 0 ∙ octet-first s at
 
 module _ (s : List ℕ) (at : ℕ) where
   pub endsAt : length s ≤ at → item (drop at s) ≡ End
@@ -151,3 +155,18 @@ module _ (s : List ℕ) (at : ℕ) where
 
   pub eventAt : at < length s → noEvent (octet s at) ≡ false → octetsOf (octet s at) ≤ length s - at → item (drop at s) ≡ Event (recorded (drop at s))
   eventAt h e l = isEvent (drop at s) (rw length-drop (omega arith)) (rw octet-here e) (rw (octet-here, length-drop) l)
+
+  -- the place behind: where an event stands, its octets further on, which are still in the slice; else the place itself
+  pub behindEvent : (e : Recorded) → item (drop at s) ≡ Event e → behind s at ≡ at + octetsOf (e .kind)
+  unfolding behind takenOf
+  behindEvent e q = rw q
+
+  pub eventWithin : (e : Recorded) → item (drop at s) ≡ Event e → at + octetsOf (e .kind) ≤ length s
+  eventWithin e q =
+      let w = whole (drop at s) e q in
+      let f : octetsOf (e .kind) ≤ length s - at = rw length-drop at (w .fits) in
+      omega (arith, w .some)
+
+  pub behindNone : (i : Item) → takenOf i ≡ 0 → item (drop at s) ≡ i → behind s at ≡ at
+  unfolding behind
+  behindNone i z q = rw (q, z) (add-zero at)
