@@ -47,7 +47,16 @@ pub fn octets_of(kind: u8) -> usize
 fn two(s: &[u8], at: usize) -> u16
     ensures { λ r. ⌜ r ≡ two (now (s .entry)) at ⌝ }
 {
-    words::number(words::octet(s, at, 0), words::octet(s, at, 1), 0, 0, 0, 0, 0, 0) as u16
+    words::number(
+        words::octet(s, at, 0),
+        words::octet(s, at, 1),
+        0,
+        0,
+        0,
+        0,
+        0,
+        0,
+    ) as u16
 }
 
 fn detail(kind: u8, octet: u8) -> u8
@@ -93,7 +102,10 @@ pub fn refused_start(s: &[u8]) -> bool
     let own = PointCode(two(s, 1) as u32);
     let far = PointCode(two(s, 3) as u32);
     let circuits = two(s, 5) as usize;
-    circuit::either(words::octet(s, 0, 0) != 0, circuit::bad_group(own, far, circuits))
+    circuit::either(
+        words::octet(s, 0, 0) != 0,
+        circuit::bad_group(own, far, circuits),
+    )
 }
 
 pub fn group_in(s: &[u8]) -> Group

@@ -20,9 +20,9 @@ use Rattle.trace.specs.declared.Stage.{Stage}
 use Rattle.trace.specs.declared.Stage.the-variants.{Start, Bad, Runs, Cut}
 use Rattle.records.specs.Records.{octetsOf, item, recorded, ownIn, farIn, circuitsIn, refusedStart, badStart}
 use Rattle.trace.specs.Replay.{happens, eventText, onward, textAt, linesWithin, lines, opened, idle, replay}
-use Rattle.trace.specs.Feed.{Part, mayGo, shareOf, share, stops, behind, runWithin, run, begins, fed, isOver, lastLine}
+use Rattle.trace.specs.Feed.{Part, mayGo, shareOf, share, shareAt, stops, behind, runWithin, run, begins, fed, isOver, lastLine}
 use Rattle.records.proofs.Items.{never, whole, byItem, sameOctet, eventStays, noneStays}
-use Rattle.trace.proofs.Runs.{runStops, runGoes}
+use Rattle.trace.proofs.Runs.{takes, runStops, runGoes}
 use Rattle.trace.specs.Parts.{textFrom, tableAfter, Move, Reads, Feeds, Standing, before, moved, after, whole-text, hasNext}
 
 -- ---- the lines, one event after another
@@ -66,15 +66,6 @@ stopsSplit : (r : Running) (table s rest : List ℕ) → Splits (Runs r) table s
 unfolding textFrom stops
 stopsSplit r table s rest =
     byItem s (λ z q. rw q) (λ z n q. rw q (linesNone r table (s ++ rest) (noneStays s rest z n))) (λ z q. rw q) (λ q. rw q)
-
--- an event is taken: it stands there
-takes : {P : Type 0} (r : Running) (table s : List ℕ) (n : ℕ) → (share r table s n .taken ≡ 0 → ⊥)
-    → ((e : Recorded) → item s ≡ Event e → share r table s n ≡ shareOf (Event e) r table → P) → P
-unfolding share
-takes r table s n p go =
-    byTest (mayGo r n)
-    (λ m. byItem s (λ z q. absurd (p (rw (m, q)))) (λ z o q. absurd (p (rw (m, q)))) (λ z q. absurd (p (rw (m, q)))) (λ q. go (recorded s) q (rw (m, q))))
-    (λ m. absurd (p (rw m)))
 
 eventSplit : (r : Running) (table s rest : List ℕ) (e : Recorded) (p : Part) → item s ≡ Event e
     → Splits (Runs (onward r)) (happens r table e .table) (drop (octetsOf (e .kind)) s) rest p (p .table)
@@ -162,7 +153,7 @@ module _ (r : Running) (table s : List ℕ) (n : ℕ) (room : lineRoom ≤ n) (m
   goes = rw (le-leb lineRoom n room, more)
 
   eventTaken : (e : Recorded) → item s ≡ Event e → share r table s n .taken ≡ octetsOf (e .kind)
-  unfolding share
+  unfolding shareAt
   eventTaken e q = rw (goes, q)
 
   nothingThere : (e : Recorded) → item s ≡ Event e → share r table s n .taken ≡ 0 → ⊥

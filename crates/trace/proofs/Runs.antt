@@ -12,13 +12,14 @@ use borrow.Author.Tests.{eq-eqb, ne-eqb, eqb-false, ltb-true}
 use Rattle.words.specs.Words.{largest}
 use Rattle.text.proofs.Numbers.{byTest}
 use Rattle.text.specs.Writing.{lineRoom}
+use Rattle.records.specs.declared.Recorded.{Recorded}
 use Rattle.records.specs.declared.Item.{Item}
 use Rattle.records.specs.declared.Item.the-variants.{Event, NoEvent, Short, End}
 use Rattle.trace.specs.declared.Running.{Running}
-use Rattle.records.specs.Records.{item}
+use Rattle.records.specs.Records.{item, recorded}
 use Rattle.trace.specs.Replay.{onward}
-use Rattle.trace.specs.Feed.{Part, Share, noShare, mayGo, shareOf, share, stops, behind, runWithin, run}
-use Rattle.records.proofs.Items.{never, whole}
+use Rattle.trace.specs.Feed.{Part, Share, noShare, mayGo, shareOf, share, shareAt, stops, behind, runWithin, run}
+use Rattle.records.proofs.Items.{never, whole, byItem}
 
 -- a share takes what there is, and one that takes nothing is none
 pub record Shared (table s : List ℕ) (h : Share) : Type 0 where
@@ -35,7 +36,7 @@ sharedOf r table s Short q = noneShared table s
 sharedOf r table s End q = noneShared table s
 
 pub shared : (r : Running) (table s : List ℕ) (n : ℕ) → Shared table s (share r table s n)
-unfolding share
+unfolding shareAt
 shared r table s n = byTest (mayGo r n) (λ e. rw e (sharedOf r table s (item s) refl)) (λ e. rw e (noneShared table s))
 
 -- any bound above the octets gives the same run
@@ -75,7 +76,16 @@ ordinalBelow true b e = e
 ordinalBelow false b e = never cc
 
 -- an event was taken, so there is a further ordinal
-pub ordinal : (r : Running) (table s : List ℕ) (n : ℕ) → (share r table s n .taken ≡ 0 → ⊥) → r .next < largest
-unfolding share
-ordinal r table s n p =
+pub ordinal : (i : Item) (r : Running) (table : List ℕ) (n : ℕ) → (shareAt i r table n .taken ≡ 0 → ⊥) → r .next < largest
+unfolding shareAt
+ordinal i r table n p =
     byTest (mayGo r n) (λ e. ltb-true _ _ (ordinalBelow (leb lineRoom n) (ltb (r .next) largest) e)) (λ e. absurd (p (rw e)))
+
+-- an event is taken: it stands there
+pub takes : {P : Type 0} (r : Running) (table s : List ℕ) (n : ℕ) → (share r table s n .taken ≡ 0 → ⊥)
+    → ((e : Recorded) → item s ≡ Event e → share r table s n ≡ shareOf (Event e) r table → P) → P
+unfolding shareAt
+takes r table s n p go =
+    byTest (mayGo r n)
+    (λ m. byItem s (λ z q. absurd (p (rw (m, q)))) (λ z o q. absurd (p (rw (m, q)))) (λ z q. absurd (p (rw (m, q)))) (λ q. go (recorded s) q (rw (m, q))))
+    (λ m. absurd (p (rw m)))

@@ -23,7 +23,7 @@ use Rattle.trace.specs.declared.Running.{Running}
 use Rattle.trace.specs.declared.Turn.{Turn}
 use Rattle.records.specs.Records.{octetsOf, item}
 use Rattle.trace.specs.Replay.{happens, lineOf, eventText}
-use Rattle.trace.specs.Feed.{Share, noShare, shareOf, share}
+use Rattle.trace.specs.Feed.{Share, noShare, shareOf, share, shareAt}
 use Rattle.trace.specs.Way.{noTurn, turnOf}
 
 -- a turn, the table and the room after it are a share's
@@ -45,15 +45,15 @@ module _ (r : Running) (table : List ℕ) (e : Recorded) (found : Found) (a : An
       let w : inRoom room (line l) ≡ eventText r table e = rw (le-ltb (length room) lineRoom h, x) in
       (rw (p .count, w, q), (rw (t, f), rw (p .room, w)))
 
-module _ (r : Running) (table s room : List ℕ) where
-  pub noRoom : length room < lineRoom → Lands noTurn table room room (share r table s (length room))
-  unfolding share
+module _ (i : Item) (r : Running) (table room : List ℕ) where
+  pub noRoom : length room < lineRoom → Lands noTurn table room room (shareAt i r table (length room))
+  unfolding shareAt
   noRoom h = rw (lt-leb lineRoom (length room) h) (refl, (refl, refl))
 
-  pub noOrdinal : r .next ≡ largest → lineRoom ≤ length room → Lands noTurn table room room (share r table s (length room))
-  unfolding share
+  pub noOrdinal : r .next ≡ largest → lineRoom ≤ length room → Lands noTurn table room room (shareAt i r table (length room))
+  unfolding shareAt
   noOrdinal e h = rw (le-leb lineRoom (length room) h, e) (refl, (refl, refl))
 
-  pub mayTake : lineRoom ≤ length room → (r .next ≡ largest → ⊥) → r .next < 2 ^ 64 → share r table s (length room) ≡ shareOf (item s) r table
-  unfolding share
+  pub mayTake : lineRoom ≤ length room → (r .next ≡ largest → ⊥) → r .next < 2 ^ 64 → shareAt i r table (length room) ≡ shareOf i r table
+  unfolding shareAt
   mayTake h e f = rw (le-leb lineRoom (length room) h, lt-ltb (r .next) largest (omega arith))

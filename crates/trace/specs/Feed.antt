@@ -44,9 +44,13 @@ shareOf NoEvent r table = noShare table
 shareOf Short r table = noShare table
 shareOf End r table = noShare table
 
+-- what was read is taken where it may go
+unfoldable pub shareAt : Item → Running → List ℕ → ℕ → Share
+shareAt i r table room = cond (mayGo r room) (shareOf i r table) (noShare table)
+
 -- the event at the start, where one stands there whole
-unfoldable pub share : Running → List ℕ → List ℕ → ℕ → Share
-share r table s room = cond (mayGo r room) (shareOf (item s) r table) (noShare table)
+abbrev pub share : Running → List ℕ → List ℕ → ℕ → Share
+share r table s room = shareAt (item s) r table room
 
 -- where a run stops: cut before what is no event, else it waits for more
 abbrev pub stageAt : Item → Running → Stage
