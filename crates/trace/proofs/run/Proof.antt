@@ -315,27 +315,40 @@ module _ {M : Type 1} (𝓤 : URA M) (H : Heap 𝓤) (A : Atoms 𝓤) (W : Given
   abbrev begun : (g : Going) → g ≡ started r → Is G.the-row g (G′.lowered g ∷ []) → Standing
   begun g e is = record { g = g; table = table₀; room = room₀; at = 0; sofar = rw e (at-first r table₀ (now s) room₀); is = is }
 
-  abbrev further : (t : Standing) (q : Going) (table' room' : List ℕ) (went : Goes (stands (t .at)) (t .g) (t .table) (t .room) q table' room') → Is G.the-row q (G′.lowered q ∷ [])
-      → (share (t .g .here) (t .table) (drop-list (t .at) (now s)) (length (t .room) - t .g .written) .taken ≡ 0 → ⊥) → Standing
-  further t q table' room' went is p = record {
+  -- a turn was made from t: what it says of the event that was read
+  abbrev Went : Standing → Going → List ℕ → List ℕ → Type 0
+  Went t q table' room' = Goes (stands (t .at)) (t .g) (t .table) (t .room) q table' room'
+
+  abbrev taken : Standing → ℕ
+  taken t = share (t .g .here) (t .table) (drop-list (t .at) (now s)) (length (t .room) - t .g .written) .taken
+
+  taken-some : (t : Standing) (q : Going) (table' room' : List ℕ) → Went t q table' room' → q .over ≡ false → taken t ≡ 0 → ⊥
+  taken-some t q table' room' went = wentFurther r table₀ (now s) room₀ (t .g) (t .table) (t .room) (t .at) (t .sofar) q table' room' went
+
+  abbrev further : (t : Standing) (q : Going) (table' room' : List ℕ) (went : Went t q table' room') → Is G.the-row q (G′.lowered q ∷ []) → q .over ≡ false → Standing
+  further t q table' room' went is on = record {
     g = q;
     table = table';
     room = room';
     at = placeBehind (now s) (t .at);
-    sofar = goes-again r table₀ (now s) room₀ (t .g) (t .table) (t .room) (t .at) (t .sofar) q table' room' went p;
+    sofar = goes-again r table₀ (now s) room₀ (t .g) (t .table) (t .room) (t .at) (t .sofar) q table' room' went (taken-some t q table' room' went on);
     is = is;
   }
 
-  -- where the loop is left: what the contract says, and that table and room have kept their lengths
-  ran : (t : Standing) (q : Going) (table' room' : List ℕ) (went : Goes (stands (t .at)) (t .g) (t .table) (t .room) q table' room')
-      → share (t .g .here) (t .table) (drop-list (t .at) (now s)) (length (t .room) - t .g .written) .taken ≡ 0
-      → (i : Item) → i ≡ stands (t .at) → (a : Fed) → a ≡ ended i (t .at) q → Ran r table₀ (now s) room₀ a table' room'
-  ran t q table' room' went z i ei a ea = rw (ea, ei) (stopped r table₀ (now s) room₀ (t .g) (t .table) (t .room) (t .at) (t .sofar) q table' room' went z)
+  further-nearer : (t : Standing) (q : Going) (table' room' : List ℕ) (went : Went t q table' room') → q .over ≡ false → length (now s) - placeBehind (now s) (t .at) < length (now s) - t .at
+  further-nearer t q table' room' went on = nearer r table₀ (now s) room₀ (t .g) (t .table) (t .room) (t .at) (t .sofar) q table' room' went (taken-some t q table' room' went on)
 
-  tableLength : (t : Standing) (q : Going) (table' room' : List ℕ) → Goes (stands (t .at)) (t .g) (t .table) (t .room) q table' room' → length table' ≡ length table₀
+  -- where the loop is left: what the contract says, and that table and room have kept their lengths
+  ran : (t : Standing) (q : Going) (table' room' : List ℕ) (went : Went t q table' room') → q .over ≡ true
+      → (i : Item) → i ≡ stands (t .at) → (a : Fed) → a ≡ ended i (t .at) q → Ran r table₀ (now s) room₀ a table' room'
+  ran t q table' room' went over i ei a ea =
+      rw (ea, ei)
+      (stopped r table₀ (now s) room₀ (t .g) (t .table) (t .room) (t .at) (t .sofar) q table' room' went (wentOver r table₀ (now s) room₀ (t .g) (t .table) (t .room) (t .at) (t .sofar) q table' room' went over))
+
+  tableLength : (t : Standing) (q : Going) (table' room' : List ℕ) → Went t q table' room' → length table' ≡ length table₀
   tableLength t q table' room' went = went .keepsTable ∙ t .sofar .tableKept
 
-  roomLength : (t : Standing) (q : Going) (table' room' : List ℕ) → Goes (stands (t .at)) (t .g) (t .table) (t .room) q table' room' → length room' ≡ length room₀
+  roomLength : (t : Standing) (q : Going) (table' room' : List ℕ) → Went t q table' room' → length room' ≡ length room₀
   roomLength t q table' room' went = went .keepsRoom ∙ t .sofar .roomKept
 
   exit : (a : Fed) (v : Val) (table' room' : List ℕ) → Ran r table₀ (now s) room₀ a table' room' → length table' ≡ length table₀ → length room' ≡ length room₀
@@ -357,93 +370,121 @@ module _ {M : Type 1} (𝓤 : URA M) (H : Heap 𝓤) (A : Atoms 𝓤) (W : Given
 
     module _ (l₀ l₁ l₂ l₃ l₄ l₅ l₆ l₇ l₈ l₉ l₁₀ l₁₁ l₁₂ l₁₃ l₁₄ l₁₅ l₁₆ l₁₇ : ℕ) where
       abbrev En : Env 𝓤 H
-      En = (F′.mir, l₀) ∷ (N′.mir, l₁) ∷ (τ₂, l₂) ∷ (τ₃, l₃) ∷ (τ₄, l₄) ∷ ((R′.mir erased), l₅) ∷ (G′.mir, l₆) ∷ (I′.mir, l₇) ∷ ((R′.mir erased), l₈) ∷ (τ₉, l₉) ∷ ((sliceTy τ₉), l₁₀) ∷ (τ₉, l₁₁) ∷ ((sliceTy τ₉), l₁₂) ∷ (tyBool, l₁₃) ∷ ((R′.mir erased), l₁₄) ∷ (I′.mir, l₁₅) ∷ ((R′.mir erased), l₁₆) ∷ ((tyInt w64), l₁₇) ∷ []
+      En = (F′.mir, l₀) ∷ (N′.mir, l₁) ∷ (τ₂, l₂) ∷ (τ₃, l₃) ∷ (τ₄, l₄) ∷ (R′.mir erased, l₅) ∷ (G′.mir, l₆) ∷ (I′.mir, l₇) ∷ (R′.mir erased, l₈) ∷ (τ₉, l₉) ∷ (sliceTy τ₉, l₁₀) ∷ (τ₉, l₁₁) ∷ (sliceTy τ₉, l₁₂) ∷ (tyBool, l₁₃) ∷ (R′.mir erased, l₁₄) ∷ (I′.mir, l₁₅) ∷ (R′.mir erased, l₁₆) ∷ (tyInt w64, l₁₇) ∷ []
+
+      -- what is had where the reader stands at n, table and room hold these octets and the run stands at g; the flag is what _13 is
+      abbrev Having : ℕ → List ℕ → List ℕ → Going → Held-item 𝓤 → List (Held-item 𝓤)
+      Having n table room g flag =
+          ‵ (Reads n) ∷ (‵ (flft κ₁ q₁) ⊛ ‵ ftrue) ∷ ‵ (TableAs table table) ∷ ‵ (flft κ₀ q₀) ∷ ‵ (RoomAs room room) ∷ ‵ (flft κ₂ q₂) ∷ ‵ Slice
+          ∷ ‵ (froom (tyInt w64) l₁₇ 0) ∷ ‵ (fdies (tyInt w64) l₁₇) ∷ ‵ (froom (R′.mir erased) l₁₆ 0) ∷ ‵ (fdies (R′.mir erased) l₁₆) ∷ ‵ (froom I′.mir l₁₅ 0) ∷ ‵ (fdies I′.mir l₁₅)
+          ∷ ‵ (froom (R′.mir erased) l₁₄ 0) ∷ ‵ (fdies (R′.mir erased) l₁₄) ∷ flag ∷ ‵ (fdies tyBool l₁₃) ∷ ‵ (froom (sliceTy τ₉) l₁₂ 0) ∷ ‵ (fdies (sliceTy τ₉) l₁₂)
+          ∷ ‵ (froom τ₉ l₁₁ 0) ∷ ‵ (fdies τ₉ l₁₁) ∷ ‵ (froom (sliceTy τ₉) l₁₀ 0) ∷ ‵ (fdies (sliceTy τ₉) l₁₀) ∷ ‵ (froom τ₉ l₉ 0) ∷ ‵ (fdies τ₉ l₉)
+          ∷ ‵ (froom (R′.mir erased) l₈ 0) ∷ ‵ (fdies (R′.mir erased) l₈) ∷ ‵ (froom I′.mir l₇ 0) ∷ ‵ (fdies I′.mir l₇) ∷ ‵ (fat fullShare G′.mir l₆ 0 (G′.lowered g)) ∷ ‵ (fdies G′.mir l₆)
+          ∷ ‵ (fat fullShare (R′.mir erased) l₅ 0 (R′.lowered (readerAt n))) ∷ ‵ (fdies (R′.mir erased) l₅) ∷ ‵ (fat fullShare τ₄ l₄ 0 (sliceVal (b₂, o₂) (length room))) ∷ ‵ (fdies τ₄ l₄) ∷ ‵ (fat fullShare τ₃ l₃ 0 (asValue s)) ∷ ‵ (fdies τ₃ l₃)
+          ∷ ‵ (fat fullShare τ₂ l₂ 0 (sliceVal (b₀, o₀) (length table))) ∷ ‵ (fdies τ₂ l₂) ∷ ‵ (fat fullShare N′.mir l₁ 0 (N′.lowered r)) ∷ ‵ (fdies N′.mir l₁) ∷ ‵ (froom F′.mir l₀ 0) ∷ ‵ (fdies F′.mir l₀) ∷ []
 
       abbrev At : Standing → List (Held-item 𝓤)
-      At t =
-          ‵ (Reads (t .at)) ∷ (‵ (flft κ₁ q₁) ⊛ ‵ ftrue) ∷ ‵ (TableAs (t .table) (t .table)) ∷ ‵ (flft κ₀ q₀) ∷ ‵ (RoomAs (t .room) (t .room)) ∷ ‵ (flft κ₂ q₂) ∷ ‵ Slice
-          ∷ ‵ (froom (tyInt w64) l₁₇ 0) ∷ ‵ (fdies (tyInt w64) l₁₇) ∷ ‵ (froom (R′.mir erased) l₁₆ 0) ∷ ‵ (fdies (R′.mir erased) l₁₆) ∷ ‵ (froom I′.mir l₁₅ 0) ∷ ‵ (fdies I′.mir l₁₅)
-          ∷ ‵ (froom (R′.mir erased) l₁₄ 0) ∷ ‵ (fdies (R′.mir erased) l₁₄) ∷ ‵ (froom tyBool l₁₃ 0) ∷ ‵ (fdies tyBool l₁₃) ∷ ‵ (froom (sliceTy τ₉) l₁₂ 0) ∷ ‵ (fdies (sliceTy τ₉) l₁₂)
-          ∷ ‵ (froom τ₉ l₁₁ 0) ∷ ‵ (fdies τ₉ l₁₁) ∷ ‵ (froom (sliceTy τ₉) l₁₀ 0) ∷ ‵ (fdies (sliceTy τ₉) l₁₀) ∷ ‵ (froom τ₉ l₉ 0) ∷ ‵ (fdies τ₉ l₉)
-          ∷ ‵ (froom (R′.mir erased) l₈ 0) ∷ ‵ (fdies (R′.mir erased) l₈) ∷ ‵ (froom I′.mir l₇ 0) ∷ ‵ (fdies I′.mir l₇) ∷ ‵ (fat fullShare G′.mir l₆ 0 (G′.lowered (t .g))) ∷ ‵ (fdies G′.mir l₆)
-          ∷ ‵ (fat fullShare (R′.mir erased) l₅ 0 (R′.lowered (readerAt (t .at)))) ∷ ‵ (fdies (R′.mir erased) l₅) ∷ ‵ (fat fullShare τ₄ l₄ 0 (sliceVal (b₂, o₂) (length (t .room)))) ∷ ‵ (fdies τ₄ l₄) ∷ ‵ (fat fullShare τ₃ l₃ 0 (asValue s)) ∷ ‵ (fdies τ₃ l₃)
-          ∷ ‵ (fat fullShare τ₂ l₂ 0 (sliceVal (b₀, o₀) (length (t .table)))) ∷ ‵ (fdies τ₂ l₂) ∷ ‵ (fat fullShare N′.mir l₁ 0 (N′.lowered r)) ∷ ‵ (fdies N′.mir l₁) ∷ ‵ (froom F′.mir l₀ 0) ∷ ‵ (fdies F′.mir l₀) ∷ []
+      At t = Having (t .at) (t .table) (t .room) (t .g) (‵ (froom tyBool l₁₃ 0))
+
+      -- once a turn is done
+      abbrev Done : Standing → Going → List ℕ → List ℕ → List (Held-item 𝓤)
+      Done t q table' room' = Having (t .at) table' room' q (‵ (fat fullShare tyBool l₁₃ 0 (vbool (q .over))))
 
       -- a turn's postcondition: it ends nearer to the part's end, or the loop is left and the rest of the body runs
       abbrev Turned : Standing → Out → SProp 𝓤
       Turned t = afterTurn 𝓤 H (Below 𝓤 H A Nearer At t) (afterBlock 𝓤 H (afterSeq 𝓤 H (Wp 𝓤 H (𝓣 .C) (𝓣 .Λ) En steps.t-4 (atReturn 𝓤 H En Post)) (atReturn 𝓤 H En Post)))
 
-      -- what is left once a turn is done: the context, with the place of _13 and _6 filled
-      abbrev Done : Standing → Going → List ℕ → List ℕ → List (Held-item 𝓤)
-      Done t q table' room' =
-          ‵ (Reads (t .at)) ∷ (‵ (flft κ₁ q₁) ⊛ ‵ ftrue) ∷ ‵ (TableAs table' table') ∷ ‵ (flft κ₀ q₀) ∷ ‵ (RoomAs room' room') ∷ ‵ (flft κ₂ q₂) ∷ ‵ Slice
-          ∷ ‵ (froom (tyInt w64) l₁₇ 0) ∷ ‵ (fdies (tyInt w64) l₁₇) ∷ ‵ (froom (R′.mir erased) l₁₆ 0) ∷ ‵ (fdies (R′.mir erased) l₁₆) ∷ ‵ (froom I′.mir l₁₅ 0) ∷ ‵ (fdies I′.mir l₁₅)
-          ∷ ‵ (froom (R′.mir erased) l₁₄ 0) ∷ ‵ (fdies (R′.mir erased) l₁₄) ∷ ‵ (fat fullShare tyBool l₁₃ 0 (vbool (q .over))) ∷ ‵ (fdies tyBool l₁₃) ∷ ‵ (froom (sliceTy τ₉) l₁₂ 0) ∷ ‵ (fdies (sliceTy τ₉) l₁₂)
-          ∷ ‵ (froom τ₉ l₁₁ 0) ∷ ‵ (fdies τ₉ l₁₁) ∷ ‵ (froom (sliceTy τ₉) l₁₀ 0) ∷ ‵ (fdies (sliceTy τ₉) l₁₀) ∷ ‵ (froom τ₉ l₉ 0) ∷ ‵ (fdies τ₉ l₉)
-          ∷ ‵ (froom (R′.mir erased) l₈ 0) ∷ ‵ (fdies (R′.mir erased) l₈) ∷ ‵ (froom I′.mir l₇ 0) ∷ ‵ (fdies I′.mir l₇) ∷ ‵ (fat fullShare G′.mir l₆ 0 (G′.lowered q)) ∷ ‵ (fdies G′.mir l₆)
-          ∷ ‵ (fat fullShare (R′.mir erased) l₅ 0 (R′.lowered (readerAt (t .at)))) ∷ ‵ (fdies (R′.mir erased) l₅) ∷ ‵ (fat fullShare τ₄ l₄ 0 (sliceVal (b₂, o₂) (length room'))) ∷ ‵ (fdies τ₄ l₄) ∷ ‵ (fat fullShare τ₃ l₃ 0 (asValue s)) ∷ ‵ (fdies τ₃ l₃)
-          ∷ ‵ (fat fullShare τ₂ l₂ 0 (sliceVal (b₀, o₀) (length table'))) ∷ ‵ (fdies τ₂ l₂) ∷ ‵ (fat fullShare N′.mir l₁ 0 (N′.lowered r)) ∷ ‵ (fdies N′.mir l₁) ∷ ‵ (froom F′.mir l₀ 0) ∷ ‵ (fdies F′.mir l₀) ∷ []
-
-      module _ (t : Standing) (q : Going) (table' room' : List ℕ) (went : Goes (stands (t .at)) (t .g) (t .table) (t .room) q table' room') (isq : Is G.the-row q (G′.lowered q ∷ [])) where
+      module _ (t : Standing) (q : Going) (table' room' : List ℕ) (went : Went t q table' room') (isq : Is G.the-row q (G′.lowered q ∷ [])) where
         -- the run is over: the reader is asked once more, for the stage, and the answer is put together
         ends : q .over ≡ true → Sq W (Done t q table' room') (runs (𝓣 .C) (𝓣 .Λ) En steps.t-4 (atRet En Post))
         ends over =
             peeks ! (Held (κ₁, tt)) (Is (Held (κ₁, tt))) (shows 𝓤 H A (Held (κ₁, tt))) (readerAt (t .at)) (R′.lowered (readerAt (t .at)) ∷ []) (λ is.
-            assigns ! (of-opd ! (load ! (from ! (stop !)) (look ! 31 refl))) (from ! (stop !)) (init ! 9 refl (reader-typed (t .at) is)) $ use2 W (raw (Here 𝓤 H A mem run .pre (to-here (t .at)))) (asks-here (t .at)) $
+            assigns ! (of-opd ! (load ! (from ! (stop !)) (look ! 31 refl))) (from ! (stop !)) (init ! 9 refl (reader-typed (t .at) is)) $
+            use2 W (raw (Here 𝓤 H A mem run .pre (to-here (t .at)))) (asks-here (t .at)) $
             calls-at ! fm (Here 𝓤 H A mem run) (known .here) (to-here (t .at)) (and-then ! (load ! (from ! (stop !)) (look ! 8 refl)) (no-more !)) (λ w.
-            use1 W (later (some (λ (i : Item). ((‵ (flft κ₁ q₁) ⊛ ‵ ftrue) ⊛ ‵ (I.the-row .own i (w ∷ []))) ⊛ raw (ensured 𝓤 H A here.ended (here.clauses 𝓤 H A mem run) (κ₁, tt) (readerAt (t .at), tt) tt i)))) (id⊢ 𝓤 _) $ await ! tt $ pick ! (λ i. split ! $ move ! (1 ∷ []) $ use1 W (raw (fact 𝓤 (i ≡ stands (t .at)))) (here-told (t .at) i) $ heard ! (i ≡ stands (t .at)) (λ ei. split ! $ move ! (1 ∷ []) $
+            use1 W (later (some (λ (i : Item). ((‵ (flft κ₁ q₁) ⊛ ‵ ftrue) ⊛ ‵ (I.the-row .own i (w ∷ []))) ⊛ raw (ensured 𝓤 H A here.ended (here.clauses 𝓤 H A mem run) (κ₁, tt) (readerAt (t .at), tt) tt i)))) (id⊢ 𝓤 _) $ await ! tt $ pick ! (λ i.
+            split ! $ move ! (1 ∷ []) $ use1 W (raw (fact 𝓤 (i ≡ stands (t .at)))) (here-told (t .at) i) $ heard ! (i ≡ stands (t .at)) (λ ei. split ! $ move ! (1 ∷ []) $
             peeks ! I.the-row (Is I.the-row) (shows 𝓤 H A I.the-row) i (w ∷ []) (λ ks. land ! (from ! (stop !)) (init ! 11 refl (EL.lawful I.the-type I′.the-laws 𝓤 H A W tt .typed i _ ks .0)) $
             -- _17 is its place, and the answer is put together
-            assigns ! (of-opd ! (load ! (from ! (fld ! refl (stop !))) (look-in ! 31 (sub ! 1 refl (whole !))))) (from ! (stop !)) (init ! 7 refl (tt, record { fits = small (t .at) is })) $ use1 W (raw (Ended 𝓤 H A mem run .pre (to-ended i w (t .at) q))) (goes-ended i w (t .at) q (small (t .at) is) isq) $
+            assigns ! (of-opd ! (load ! (from ! (fld ! refl (stop !))) (look-in ! 31 (sub ! 1 refl (whole !))))) (from ! (stop !)) (init ! 7 refl (tt, record { fits = small (t .at) is })) $
+            use1 W (raw (Ended 𝓤 H A mem run .pre (to-ended i w (t .at) q))) (goes-ended i w (t .at) q (small (t .at) is) isq) $
             calls-at ! fm (Ended 𝓤 H A mem run) (known .ended) (to-ended i w (t .at) q) (and-then ! (load ! (from ! (stop !)) (look ! 11 refl)) (and-then ! (load ! (from ! (stop !)) (look ! 7 refl)) (and-then ! (load ! (from ! (stop !)) (look ! 29 refl)) (no-more !)))) (λ v.
-            use1 W (later (some (λ (a : Fed). (‵ ftrue ⊛ ‵ (F.the-row .own a (v ∷ []))) ⊛ raw (ensured 𝓤 H A ended-fn.ended (ended-fn.clauses 𝓤 H A mem run) tt (i, (t .at, (q, tt))) tt a)))) (id⊢ 𝓤 _) $ await ! tt $ pick ! (λ a. split ! $ move ! (1 ∷ []) $ use1 W (raw (fact 𝓤 (a ≡ ended i (t .at) q))) (ended-told i (t .at) q a) $ heard ! (a ≡ ended i (t .at) q) (λ ea. split ! $ drop ! $
+            use1 W (later (some (λ (a : Fed). (‵ ftrue ⊛ ‵ (F.the-row .own a (v ∷ []))) ⊛ raw (ensured 𝓤 H A ended-fn.ended (ended-fn.clauses 𝓤 H A mem run) tt (i, (t .at, (q, tt))) tt a)))) (id⊢ 𝓤 _) $ await ! tt $ pick ! (λ a.
+            split ! $ move ! (1 ∷ []) $ use1 W (raw (fact 𝓤 (a ≡ ended i (t .at) q))) (ended-told i (t .at) q a) $ heard ! (a ≡ ended i (t .at) q) (λ ea. split ! $ drop ! $
             peeks ! F.the-row (Is F.the-row) (shows 𝓤 H A F.the-row) a (v ∷ []) (λ ls. land ! (from ! (stop !)) (init ! 41 refl (SL.lawful F.the-type F′.the-laws 𝓤 H A W .typed a _ ls .0)) $
-            returns ! (look ! 41 refl) $ forget ! 41 refl $ forget ! 39 refl $ forget ! 37 refl $ forget ! 35 refl $ forget ! 33 refl $ forget ! 31 refl $ forget ! 29 refl $ forget ! 15 refl $ forget ! 11 refl $ forget ! 9 refl $ forget ! 7 refl $
-            move ! (41 ∷ 42 ∷ []) $ free1 ! $ move ! (39 ∷ 40 ∷ []) $ free1 ! $ move ! (37 ∷ 38 ∷ []) $ free1 ! $ move ! (35 ∷ 36 ∷ []) $ free1 ! $ move ! (33 ∷ 34 ∷ []) $ free1 ! $ move ! (31 ∷ 32 ∷ []) $ free1 ! $ move ! (29 ∷ 30 ∷ []) $ free1 ! $ move ! (27 ∷ 28 ∷ []) $ free1 ! $ move ! (25 ∷ 26 ∷ []) $ free1 ! $ move ! (23 ∷ 24 ∷ []) $ free1 ! $ move ! (21 ∷ 22 ∷ []) $ free1 ! $ move ! (19 ∷ 20 ∷ []) $ free1 ! $ move ! (17 ∷ 18 ∷ []) $ free1 ! $ move ! (15 ∷ 16 ∷ []) $ free1 ! $ move ! (13 ∷ 14 ∷ []) $ free1 ! $ move ! (11 ∷ 12 ∷ []) $ free1 ! $ move ! (9 ∷ 10 ∷ []) $ free1 ! $ move ! (7 ∷ 8 ∷ []) $ free1 ! $ free0 ! $
-            keep ! (0 ∷ 3 ∷ 1 ∷ 5 ∷ 2 ∷ 6 ∷ 4 ∷ []) $ by ! (exit a v table' room' (ran t q table' room' went (wentOver r table₀ (now s) room₀ (t .g) (t .table) (t .room) (t .at) (t .sofar) q table' room' went over) i ei a ea) (tableLength t q table' room' went) (roomLength t q table' room' went)))))))))))
+            returns ! (look ! 41 refl) $ forget ! 41 refl $ forget ! 39 refl $ forget ! 37 refl $ forget ! 35 refl $ forget ! 33 refl $ forget ! 31 refl $ forget ! 29 refl $ forget ! 15 refl $
+            forget ! 11 refl $ forget ! 9 refl $ forget ! 7 refl $
+            move ! (41 ∷ 42 ∷ []) $ free1 ! $ move ! (39 ∷ 40 ∷ []) $ free1 ! $ move ! (37 ∷ 38 ∷ []) $ free1 ! $ move ! (35 ∷ 36 ∷ []) $ free1 ! $ move ! (33 ∷ 34 ∷ []) $ free1 ! $
+            move ! (31 ∷ 32 ∷ []) $ free1 ! $ move ! (29 ∷ 30 ∷ []) $ free1 ! $ move ! (27 ∷ 28 ∷ []) $ free1 ! $ move ! (25 ∷ 26 ∷ []) $ free1 ! $ move ! (23 ∷ 24 ∷ []) $ free1 ! $
+            move ! (21 ∷ 22 ∷ []) $ free1 ! $ move ! (19 ∷ 20 ∷ []) $ free1 ! $ move ! (17 ∷ 18 ∷ []) $ free1 ! $ move ! (15 ∷ 16 ∷ []) $ free1 ! $ move ! (13 ∷ 14 ∷ []) $ free1 ! $
+            move ! (11 ∷ 12 ∷ []) $ free1 ! $ move ! (9 ∷ 10 ∷ []) $ free1 ! $ move ! (7 ∷ 8 ∷ []) $ free1 ! $ free0 ! $
+            keep ! (0 ∷ 3 ∷ 1 ∷ 5 ∷ 2 ∷ 6 ∷ 4 ∷ []) $ by ! (exit a v table' room' (ran t q table' room' went over i ei a ea) (tableLength t q table' room' went) (roomLength t q table' room' went)))))))))))
 
         -- an event was taken: the reader goes on behind its record
         goes-on : q .over ≡ false → Sq W (Done t q table' room') (runs (𝓣 .C) (𝓣 .Λ) En more (anyQ (Turned t)))
         unfolding afterTurn
         goes-on on =
             peeks ! (Held (κ₁, tt)) (Is (Held (κ₁, tt))) (shows 𝓤 H A (Held (κ₁, tt))) (readerAt (t .at)) (R′.lowered (readerAt (t .at)) ∷ []) (λ is₀.
-            assigns ! (of-opd ! (load ! (from ! (stop !)) (look ! 31 refl))) (from ! (stop !)) (init ! 13 refl (reader-typed (t .at) is₀)) $ use2 W (raw (Next 𝓤 H A mem run .pre (to-here (t .at)))) (goes-next (t .at)) $
+            assigns ! (of-opd ! (load ! (from ! (stop !)) (look ! 31 refl))) (from ! (stop !)) (init ! 13 refl (reader-typed (t .at) is₀)) $
+            use2 W (raw (Next 𝓤 H A mem run .pre (to-here (t .at)))) (goes-next (t .at)) $
             calls-at-last ! fm (Next 𝓤 H A mem run) (known .next) (to-here (t .at)) (and-then ! (load ! (from ! (stop !)) (look ! 12 refl)) (no-more !)) (λ u.
-            use1 W (later (some (λ (x : Reader). ((‵ (flft κ₁ q₁) ⊛ ‵ ftrue) ⊛ ‵ (Held (κ₁, tt) .own x (u ∷ []))) ⊛ raw (ensured 𝓤 H A next-fn.ended (next-fn.clauses 𝓤 H A mem run) (κ₁, tt) (readerAt (t .at), tt) tt x)))) (id⊢ 𝓤 _) $ await ! tt $ pick ! (λ x. split ! $ move ! (1 ∷ []) $ use1 W (raw (fact 𝓤 ((x .src ≡ s) × (x .at ≡ placeBehind (now s) (t .at))))) (next-told (t .at) x) $ heard ! ((x .src ≡ s) × (x .at ≡ placeBehind (now s) (t .at))) (λ e. split ! $ move ! (1 ∷ []) $
+            use1 W (later (some (λ (x : Reader). ((‵ (flft κ₁ q₁) ⊛ ‵ ftrue) ⊛ ‵ (Held (κ₁, tt) .own x (u ∷ []))) ⊛ raw (ensured 𝓤 H A next-fn.ended (next-fn.clauses 𝓤 H A mem run) (κ₁, tt) (readerAt (t .at), tt) tt x)))) (id⊢ 𝓤 _) $ await ! tt $ pick ! (λ x.
+            split ! $ move ! (1 ∷ []) $
+            use1 W (raw (fact 𝓤 ((x .src ≡ s) × (x .at ≡ placeBehind (now s) (t .at))))) (next-told (t .at) x) $ heard ! ((x .src ≡ s) × (x .at ≡ placeBehind (now s) (t .at))) (λ e. split ! $
+            move ! (1 ∷ []) $
             peeks ! (Held (κ₁, tt)) (Is (Held (κ₁, tt))) (shows 𝓤 H A (Held (κ₁, tt))) x (u ∷ []) (λ is.
             land-last ! (from ! (stop !)) (store ! 31 refl (SL.lawful (R.the-type local) (R′.the-laws local) 𝓤 H A W .typed x _ is .0)) $
-            rewrite ! 31 (λ (z : Val). ‵ (fat fullShare (R′.mir erased) l₅ 0 z)) (lowered-at x u (placeBehind (now s) (t .at)) is (λ i. record { src = e .0 i; at = e .1 i })) refl $ rewrite ! 0 (λ (z : Val). ‵ (Held (κ₁, tt) .own x (z ∷ []))) (lowered-is x u is) refl $ rewrite ! 0 (λ (z : Reader). ‵ (Held (κ₁, tt) .own z (R′.lowered z ∷ []))) (λ i. record { src = e .0 i; at = e .1 i }) refl $
-            forget ! 15 refl $ forget ! 13 refl $ keep ! (0 ∷ 1 ∷ 2 ∷ 3 ∷ 4 ∷ 5 ∷ 6 ∷ 7 ∷ 8 ∷ 9 ∷ 10 ∷ 11 ∷ 12 ∷ 13 ∷ 14 ∷ 15 ∷ 16 ∷ 17 ∷ 18 ∷ 19 ∷ 20 ∷ 21 ∷ 22 ∷ 23 ∷ 24 ∷ 25 ∷ 26 ∷ 27 ∷ 28 ∷ 29 ∷ 30 ∷ 31 ∷ 32 ∷ 33 ∷ 34 ∷ 35 ∷ 36 ∷ 37 ∷ 38 ∷ 39 ∷ 40 ∷ 41 ∷ 42 ∷ []) $ again ! Nearer At t (further t q table' room' went isq (wentFurther r table₀ (now s) room₀ (t .g) (t .table) (t .room) (t .at) (t .sofar) q table' room' went on)) (nearer r table₀ (now s) room₀ (t .g) (t .table) (t .room) (t .at) (t .sofar) q table' room' went (wentFurther r table₀ (now s) room₀ (t .g) (t .table) (t .room) (t .at) (t .sofar) q table' room' went on)))))))
+            rewrite ! 31 (λ (z : Val). ‵ (fat fullShare (R′.mir erased) l₅ 0 z)) (lowered-at x u (placeBehind (now s) (t .at)) is (λ i. record { src = e .0 i; at = e .1 i })) refl $
+            rewrite ! 0 (λ (z : Val). ‵ (Held (κ₁, tt) .own x (z ∷ []))) (lowered-is x u is) refl $ rewrite ! 0 (λ (z : Reader). ‵ (Held (κ₁, tt) .own z (R′.lowered z ∷ []))) (λ i. record { src = e .0 i; at = e .1 i }) refl $
+            forget ! 15 refl $ forget ! 13 refl $ again ! Nearer At t (further t q table' room' went isq on) (further-nearer t q table' room' went on))))))
 
       turns : (t : Standing) → Sq W (At t) (runs (𝓣 .C) (𝓣 .Λ) En steps.turn-1 (anyQ (Turned t)))
       unfolding afterTurn
       turns t =
           -- _7 is what stands at the reader's place
           peeks ! (Held (κ₁, tt)) (Is (Held (κ₁, tt))) (shows 𝓤 H A (Held (κ₁, tt))) (readerAt (t .at)) (R′.lowered (readerAt (t .at)) ∷ []) (λ is.
-          assigns ! (of-opd ! (load ! (from ! (stop !)) (look ! 31 refl))) (from ! (stop !)) (init ! 25 refl (reader-typed (t .at) is)) $ use2 W (raw (Here 𝓤 H A mem run .pre (to-here (t .at))) ⊛ ‵ (Reads (t .at))) (goes-here (t .at)) $ split ! $
+          assigns ! (of-opd ! (load ! (from ! (stop !)) (look ! 31 refl))) (from ! (stop !)) (init ! 25 refl (reader-typed (t .at) is)) $
+          use2 W (raw (Here 𝓤 H A mem run .pre (to-here (t .at))) ⊛ ‵ (Reads (t .at))) (goes-here (t .at)) $ split ! $
           calls-at ! fm (Here 𝓤 H A mem run) (known .here) (to-here (t .at)) (and-then ! (load ! (from ! (stop !)) (look ! 25 refl)) (no-more !)) (λ w.
-          use1 W (later (some (λ (i : Item). ((‵ (flft κ₁ q₁) ⊛ ‵ ftrue) ⊛ ‵ (I.the-row .own i (w ∷ []))) ⊛ raw (ensured 𝓤 H A here.ended (here.clauses 𝓤 H A mem run) (κ₁, tt) (readerAt (t .at), tt) tt i)))) (id⊢ 𝓤 _) $ await ! tt $ pick ! (λ i. split ! $ move ! (1 ∷ []) $ use1 W (raw (fact 𝓤 (i ≡ stands (t .at)))) (here-told (t .at) i) $ heard ! (i ≡ stands (t .at)) (λ ei. split ! $ move ! (1 ∷ []) $
+          use1 W (later (some (λ (i : Item). ((‵ (flft κ₁ q₁) ⊛ ‵ ftrue) ⊛ ‵ (I.the-row .own i (w ∷ []))) ⊛ raw (ensured 𝓤 H A here.ended (here.clauses 𝓤 H A mem run) (κ₁, tt) (readerAt (t .at), tt) tt i)))) (id⊢ 𝓤 _) $ await ! tt $ pick ! (λ i.
+          split ! $ move ! (1 ∷ []) $ use1 W (raw (fact 𝓤 (i ≡ stands (t .at)))) (here-told (t .at) i) $ heard ! (i ≡ stands (t .at)) (λ ei. split ! $ move ! (1 ∷ []) $
           peeks ! I.the-row (Is I.the-row) (shows 𝓤 H A I.the-row) i (w ∷ []) (λ ks. land ! (from ! (stop !)) (init ! 28 refl (EL.lawful I.the-type I′.the-laws 𝓤 H A W tt .typed i _ ks .0)) $
           -- the table is lent again for a lifetime α, and the room for a lifetime β
-          assigns ! (addr ! (from ! (fld ! refl (hop ! (look-in ! 38 (sub ! 0 refl (whole !))) (stop !))))) (from ! (stop !)) (init ! 24 refl (tt, tt)) $ assigns ! (agg ! (and-then ! (load ! (from ! (stop !)) (look ! 24 refl)) (and-then ! (load ! (from ! (fld ! refl (stop !))) (look-in ! 38 (sub ! 1 refl (whole !)))) (no-more !)))) (from ! (stop !)) (init ! 22 refl (tt, (tt, (record { fits = big₀At t .0 }, tt)))) $
-          assigns ! (addr ! (from ! (fld ! refl (hop ! (look-in ! 34 (sub ! 0 refl (whole !))) (stop !))))) (from ! (stop !)) (init ! 20 refl (tt, tt)) $ assigns ! (agg ! (and-then ! (load ! (from ! (stop !)) (look ! 20 refl)) (and-then ! (load ! (from ! (fld ! refl (stop !))) (look-in ! 34 (sub ! 1 refl (whole !)))) (no-more !)))) (from ! (stop !)) (init ! 18 refl (tt, (tt, (record { fits = big₂At t .0 }, tt)))) $
-          lft-new ! tt (λ α. lft-new ! tt (λ β. move ! (5 ∷ 6 ∷ []) $ use2 W (later (some (λ (δ : GName). ‵ (Table (α ∷ []) (named 0) δ (t .table)) ⊛ ‵ (LentAgain u8 κ₀ (α ∷ []) q₀ γ₀ b₀ o₀ δ (t .table))))) (lends-again u8 κ₀ (α ∷ []) q₀ γ₀ b₀ o₀ 𝓤 H A W (named 0) (named 0) (t .table)) $ await ! tt $ pick ! (λ δ. split ! $
-          move ! (7 ∷ 8 ∷ []) $ use2 W (later (some (λ (ε : GName). ‵ (Room' (β ∷ []) (named 1) ε (t .room)) ⊛ ‵ (LentAgain u8 κ₂ (β ∷ []) q₂ γ₂ b₂ o₂ ε (t .room))))) (lends-again u8 κ₂ (β ∷ []) q₂ γ₂ b₂ o₂ 𝓤 H A W (named 2) (named 1) (t .room)) $ await ! tt $ pick ! (λ ε. split ! $
+          assigns ! (addr ! (from ! (fld ! refl (hop ! (look-in ! 38 (sub ! 0 refl (whole !))) (stop !))))) (from ! (stop !)) (init ! 24 refl (tt, tt)) $
+          assigns ! (agg ! (and-then ! (load ! (from ! (stop !)) (look ! 24 refl)) (and-then ! (load ! (from ! (fld ! refl (stop !))) (look-in ! 38 (sub ! 1 refl (whole !)))) (no-more !)))) (from ! (stop !)) (init ! 22 refl (tt, (tt, (record { fits = big₀At t .0 }, tt)))) $
+          assigns ! (addr ! (from ! (fld ! refl (hop ! (look-in ! 34 (sub ! 0 refl (whole !))) (stop !))))) (from ! (stop !)) (init ! 20 refl (tt, tt)) $
+          assigns ! (agg ! (and-then ! (load ! (from ! (stop !)) (look ! 20 refl)) (and-then ! (load ! (from ! (fld ! refl (stop !))) (look-in ! 34 (sub ! 1 refl (whole !)))) (no-more !)))) (from ! (stop !)) (init ! 18 refl (tt, (tt, (record { fits = big₂At t .0 }, tt)))) $
+          lft-new ! tt (λ α. lft-new ! tt (λ β. move ! (5 ∷ 6 ∷ []) $
+          use2 W (later (some (λ (δ : GName). ‵ (Table (α ∷ []) (named 0) δ (t .table)) ⊛ ‵ (LentAgain u8 κ₀ (α ∷ []) q₀ γ₀ b₀ o₀ δ (t .table))))) (lends-again u8 κ₀ (α ∷ []) q₀ γ₀ b₀ o₀ 𝓤 H A W (named 0) (named 0) (t .table)) $ await ! tt $ pick ! (λ δ.
+          split ! $
+          move ! (7 ∷ 8 ∷ []) $
+          use2 W (later (some (λ (ε : GName). ‵ (Room' (β ∷ []) (named 1) ε (t .room)) ⊛ ‵ (LentAgain u8 κ₂ (β ∷ []) q₂ γ₂ b₂ o₂ ε (t .room))))) (lends-again u8 κ₂ (β ∷ []) q₂ γ₂ b₂ o₂ 𝓤 H A W (named 2) (named 1) (t .room)) $ await ! tt $ pick ! (λ ε.
+          split ! $
           move ! (5 ∷ 4 ∷ 6 ∷ 2 ∷ 0 ∷ []) $ join ! $ join ! $ join ! $ join ! $ use1 W (raw (OneTurn 𝓤 H A mem run .pre (to-turn t α β δ ε i w))) (goes-turn t α β δ ε i w) $
           calls-at ! fm (OneTurn 𝓤 H A mem run) (known .turn) (to-turn t α β δ ε i w) (and-then ! (load ! (from ! (stop !)) (look ! 26 refl)) (and-then ! (load ! (from ! (stop !)) (look ! 28 refl)) (and-then ! (load ! (from ! (stop !)) (look ! 20 refl)) (and-then ! (load ! (from ! (stop !)) (look ! 16 refl)) (no-more !))))) (λ v.
-          use1 W (later (some (λ (q : Going). ((‵ (flft (α ∷ []) fullShare) ⊛ (‵ (flft (β ∷ []) fullShare) ⊛ ‵ ftrue)) ⊛ ‵ (G.the-row .own q (v ∷ []))) ⊛ raw (ensured 𝓤 H A one-turn.ended (one-turn.clauses 𝓤 H A mem run) (α ∷ [], (β ∷ [], tt)) (turn-args t δ ε i) tt q)))) (id⊢ 𝓤 _) $ await ! tt $ pick ! (λ q. split ! $ move ! (1 ∷ []) $
-          use1 W (some (λ (zs : Unit {0} × (Unit {0} × (List ℕ × (List ℕ × Unit {0})))). ‵ (lasts one-turn.ended (α ∷ [], (β ∷ [], tt)) (turn-args t δ ε i) zs) ⊛ raw (fact 𝓤 (Goes i (t .g) (t .table) (t .room) q (zs .1 .1 .0) (zs .1 .1 .1 .0))))) (id⊢ 𝓤 _) $ pick ! (λ zs. split ! $ move ! (1 ∷ []) $ heard ! (Goes i (t .g) (t .table) (t .room) q (zs .1 .1 .0) (zs .1 .1 .1 .0)) (λ went.
+          use1 W (later (some (λ (q : Going). ((‵ (flft (α ∷ []) fullShare) ⊛ (‵ (flft (β ∷ []) fullShare) ⊛ ‵ ftrue)) ⊛ ‵ (G.the-row .own q (v ∷ []))) ⊛ raw (ensured 𝓤 H A one-turn.ended (one-turn.clauses 𝓤 H A mem run) (α ∷ [], (β ∷ [], tt)) (turn-args t δ ε i) tt q)))) (id⊢ 𝓤 _) $ await ! tt $ pick ! (λ q.
+          split ! $ move ! (1 ∷ []) $
+          use1 W (some (λ (zs : Unit {0} × (Unit {0} × (List ℕ × (List ℕ × Unit {0})))). ‵ (lasts one-turn.ended (α ∷ [], (β ∷ [], tt)) (turn-args t δ ε i) zs) ⊛ raw (fact 𝓤 (Goes i (t .g) (t .table) (t .room) q (zs .1 .1 .0) (zs .1 .1 .1 .0))))) (id⊢ 𝓤 _) $ pick ! (λ zs.
+          split ! $ move ! (1 ∷ []) $ heard ! (Goes i (t .g) (t .table) (t .room) q (zs .1 .1 .0) (zs .1 .1 .1 .0)) (λ went.
           fsplit ! $ drop ! $ fsplit ! $ drop ! $ fsplit ! $ fsplit ! $ move ! (1 ∷ []) $ drop ! $ move ! (1 ∷ []) $ fsplit ! $ fsplit ! $ move ! (1 ∷ []) $ drop ! $ move ! (1 ∷ []) $ drop ! $
           -- where the run stands then goes into _6
-          move ! (2 ∷ []) $ split ! $ move ! (1 ∷ []) $ peeks ! G.the-row (Is G.the-row) (shows 𝓤 H A G.the-row) q (v ∷ []) (λ js. land ! (from ! (stop !)) (store ! 31 refl (SL.lawful G.the-type G′.the-laws 𝓤 H A W .typed q _ js .0)) $ rewrite ! 31 (λ (z : Val). ‵ (fat fullShare G′.mir l₆ 0 z)) (ap only (G′.lowers .val-is q _ js)) refl $ drop ! $
+          move ! (2 ∷ []) $ split ! $ move ! (1 ∷ []) $ peeks ! G.the-row (Is G.the-row) (shows 𝓤 H A G.the-row) q (v ∷ []) (λ js.
+          land ! (from ! (stop !)) (store ! 31 refl (SL.lawful G.the-type G′.the-laws 𝓤 H A W .typed q _ js .0)) $ rewrite ! 31 (λ (z : Val). ‵ (fat fullShare G′.mir l₆ 0 z)) (ap only (G′.lowers .val-is q _ js)) refl $
+          drop ! $
           -- table and room come back
-          split ! $ lft-end ! tt $ move ! (1 ∷ []) $ split ! $ lft-end ! tt $ move ! (1 ∷ []) $ drop ! $ move ! (1 ∷ 5 ∷ 3 ∷ []) $ use3 W (later (‵ (TableAs (t .table) (zs .1 .1 .0)) ⊛ ‵ (flft κ₀ q₀))) (comes-back u8 κ₀ (α ∷ []) q₀ γ₀ b₀ o₀ 𝓤 H A W (named 0) (named 0) (t .table) δ (zs .1 .1 .0) (big₀At t) (went .keepsTable)) $ await ! tt $ split ! $
-          move ! (2 ∷ 4 ∷ 3 ∷ []) $ use3 W (later (‵ (RoomAs (t .room) (zs .1 .1 .1 .0)) ⊛ ‵ (flft κ₂ q₂))) (comes-back u8 κ₂ (β ∷ []) q₂ γ₂ b₂ o₂ 𝓤 H A W (named 2) (named 1) (t .room) ε (zs .1 .1 .1 .0) (big₂At t) (went .keepsRoom)) $ await ! tt $ split ! $
+          split ! $ lft-end ! tt $ move ! (1 ∷ []) $ split ! $ lft-end ! tt $ move ! (1 ∷ []) $ drop ! $ move ! (1 ∷ 5 ∷ 3 ∷ []) $
+          use3 W (later (‵ (TableAs (t .table) (zs .1 .1 .0)) ⊛ ‵ (flft κ₀ q₀))) (comes-back u8 κ₀ (α ∷ []) q₀ γ₀ b₀ o₀ 𝓤 H A W (named 0) (named 0) (t .table) δ (zs .1 .1 .0) (big₀At t) (went .keepsTable)) $ await ! tt $
+          split ! $
+          move ! (2 ∷ 4 ∷ 3 ∷ []) $
+          use3 W (later (‵ (RoomAs (t .room) (zs .1 .1 .1 .0)) ⊛ ‵ (flft κ₂ q₂))) (comes-back u8 κ₂ (β ∷ []) q₂ γ₂ b₂ o₂ 𝓤 H A W (named 2) (named 1) (t .room) ε (zs .1 .1 .1 .0) (big₂At t) (went .keepsRoom)) $ await ! tt $
+          split ! $
           rewrite ! 2 (λ (n : ℕ). ‵ (MutSlice (named 0) κ₀ u8 .own (tab γ₀ (zs .1 .1 .0)) (sliceVal (b₀, o₀) n ∷ []))) (sym (went .keepsTable)) refl $ rewrite ! 37 (λ (n : ℕ). ‵ (fat fullShare τ₂ l₂ 0 (sliceVal (b₀, o₀) n))) (sym (went .keepsTable)) refl $
           rewrite ! 0 (λ (n : ℕ). ‵ (MutSlice (named 2) κ₂ u8 .own (rm γ₂ (zs .1 .1 .1 .0)) (sliceVal (b₂, o₂) n ∷ []))) (sym (went .keepsRoom)) refl $ rewrite ! 33 (λ (n : ℕ). ‵ (fat fullShare τ₄ l₄ 0 (sliceVal (b₂, o₂) n))) (sym (went .keepsRoom)) refl $
           -- _13 is whether the run is over
-          assigns ! (of-opd ! (load ! (from ! (fld ! refl (stop !))) (look-in ! 29 (sub ! 2 refl (whole !))))) (from ! (stop !)) (init ! 15 refl (tt, tt)) $ forget ! 27 refl $ forget ! 25 refl $ forget ! 23 refl $ forget ! 21 refl $ forget ! 19 refl $ forget ! 17 refl $
-          keep ! (5 ∷ 4 ∷ 2 ∷ 3 ∷ 0 ∷ 1 ∷ 6 ∷ 7 ∷ 8 ∷ 9 ∷ 10 ∷ 11 ∷ 12 ∷ 13 ∷ 14 ∷ 15 ∷ 16 ∷ 17 ∷ 18 ∷ 19 ∷ 20 ∷ 21 ∷ 22 ∷ 23 ∷ 24 ∷ 25 ∷ 26 ∷ 27 ∷ 28 ∷ 29 ∷ 30 ∷ 31 ∷ 32 ∷ 33 ∷ 34 ∷ 35 ∷ 36 ∷ 37 ∷ 38 ∷ 39 ∷ 40 ∷ 41 ∷ 42 ∷ []) $ first ! $ branches ! (load ! (from ! (stop !)) (look ! 15 refl))
+          assigns ! (of-opd ! (load ! (from ! (fld ! refl (stop !))) (look-in ! 29 (sub ! 2 refl (whole !))))) (from ! (stop !)) (init ! 15 refl (tt, tt)) $ forget ! 27 refl $ forget ! 25 refl $
+          forget ! 23 refl $ forget ! 21 refl $ forget ! 19 refl $ forget ! 17 refl $
+          keep ! (5 ∷ 4 ∷ 2 ∷ 3 ∷ 0 ∷ 1 ∷ 6 ∷ 7 ∷ 8 ∷ 9 ∷ 10 ∷ 11 ∷ 12 ∷ 13 ∷ 14 ∷ 15 ∷ 16 ∷ 17 ∷ 18 ∷ 19 ∷ 20 ∷ 21 ∷ 22 ∷ 23 ∷ 24 ∷ 25 ∷ 26 ∷ 27 ∷ 28 ∷ 29 ∷ 30 ∷ 31 ∷ 32 ∷ 33 ∷ 34 ∷ 35 ∷ 36 ∷ 37 ∷ 38 ∷ 39 ∷ 40 ∷ 41 ∷ 42 ∷ []) $
+          first ! $ branches ! (load ! (from ! (stop !)) (look ! 15 refl))
           (λ over. jumps ! $ exec ! (𝓣 .C) (𝓣 .Λ) En steps.t-4 (atRet En Post) $ ends t q (zs .1 .1 .0) (zs .1 .1 .1 .0) (subst (λ (k : Item). Goes k (t .g) (t .table) (t .room) q (zs .1 .1 .0) (zs .1 .1 .1 .0)) ei went) (subst (Is G.the-row q) (G′.lowers .val-is q _ js) js) (holds (q .over) over))
           (λ on. skips ! $ exec ! (𝓣 .C) (𝓣 .Λ) En more (anyQ (Turned t)) $ goes-on t q (zs .1 .1 .0) (zs .1 .1 .1 .0) (subst (λ (k : Item). Goes k (t .g) (t .table) (t .room) q (zs .1 .1 .0) (zs .1 .1 .1 .0)) ei went) (subst (Is G.the-row q) (G′.lowers .val-is q _ js) js) (fails (q .over) on))))))))))))))))
 
@@ -455,23 +496,32 @@ module _ {M : Type 1} (𝓤 : URA M) (H : Heap 𝓤) (A : Atoms 𝓤) (W : Given
     walk =
         qed W ((‵ (flft κ₀ q₀) ⊛ (‵ (flft κ₁ q₁) ⊛ (‵ (flft κ₂ q₂) ⊛ ‵ ftrue))) ∷ ‵ (owns (N.the-row ∷ MutSlice (named 0) κ₀ u8 ∷ ShrSlice (named 1) κ₁ u8 ∷ MutSlice (named 2) κ₂ u8 ∷ []) given-args vals) ∷ []) ∵
         enter ! (𝓣 .C) (𝓣 .Λ) code.function (N′.lowered r ∷ sliceVal (b₀, o₀) (length table₀) ∷ asValue s ∷ sliceVal (b₂, o₂) (length room₀) ∷ []) _ $
-        alloc1 ! (λ l₀. alloc1 ! (λ l₁. alloc1 ! (λ l₂. alloc1 ! (λ l₃. alloc1 ! (λ l₄. alloc1 ! (λ l₅. alloc1 ! (λ l₆. alloc1 ! (λ l₇. alloc1 ! (λ l₈. alloc1 ! (λ l₉. alloc1 ! (λ l₁₀. alloc1 ! (λ l₁₁. alloc1 ! (λ l₁₂. alloc1 ! (λ l₁₃. alloc1 ! (λ l₁₄. alloc1 ! (λ l₁₅. alloc1 ! (λ l₁₆. alloc1 ! (λ l₁₇. alloc0 ! $ params1 ! $
+        alloc1 ! (λ l₀. alloc1 ! (λ l₁. alloc1 ! (λ l₂. alloc1 ! (λ l₃. alloc1 ! (λ l₄. alloc1 ! (λ l₅. alloc1 ! (λ l₆. alloc1 ! (λ l₇. alloc1 ! (λ l₈.
+        alloc1 ! (λ l₉. alloc1 ! (λ l₁₀. alloc1 ! (λ l₁₁. alloc1 ! (λ l₁₂. alloc1 ! (λ l₁₃. alloc1 ! (λ l₁₄. alloc1 ! (λ l₁₅. alloc1 ! (λ l₁₆. alloc1 ! (λ l₁₇. alloc0 ! $ params1 ! $
         pass1 ! (init ! 32 refl (SL.lawful N.the-type N′.the-laws 𝓤 H A W .typed r _ isr .0)) $ pass1 ! (init ! 30 refl (tt, (tt, (record { fits = big₀ .0 }, tt)))) $
         pass1 ! (init ! 28 refl (shr-slice-lawful 𝓤 H A W (named 1) κ₁ u8 .typed s (asValue s ∷ []) iss .0)) $ pass1 ! (init ! 26 refl (tt, (tt, (record { fits = big₂ .0 }, tt)))) $ pass0 ! $
-        move ! (37 ∷ []) $ fsplit ! $ drop ! $ fsplit ! $ move ! (1 ∷ []) $ fsplit ! $ move ! (1 ∷ []) $ fsplit ! $ move ! (1 ∷ []) $ drop ! $ move ! (39 ∷ []) $ split ! $ move ! (1 ∷ []) $ split ! $ move ! (1 ∷ []) $ split ! $ move ! (1 ∷ []) $ drop ! $
+        move ! (37 ∷ []) $ fsplit ! $ drop ! $ fsplit ! $ move ! (1 ∷ []) $ fsplit ! $ move ! (1 ∷ []) $ fsplit ! $ move ! (1 ∷ []) $ drop ! $ move ! (39 ∷ []) $ split ! $ move ! (1 ∷ []) $
+        split ! $ move ! (1 ∷ []) $ split ! $ move ! (1 ∷ []) $ drop ! $
         -- a reader is made, and goes into _5
         move ! (4 ∷ 1 ∷ []) $ use2 W (raw (New 𝓤 H A mem run .pre to-new) ⊛ ‵ Slice) goes-new $ split ! $
         calls-at ! fm (New 𝓤 H A mem run) (known .new) to-new (and-then ! (load ! (from ! (stop !)) (look ! 34 refl)) (no-more !)) (λ u.
-        use1 W (later (some (λ (x : Reader). ((‵ (flft κ₁ q₁) ⊛ ‵ ftrue) ⊛ ‵ (Held (κ₁, tt) .own x (u ∷ []))) ⊛ raw (ensured 𝓤 H A new.ended (new.clauses 𝓤 H A mem run) (κ₁, tt) (s, tt) tt x)))) (id⊢ 𝓤 _) $ await ! tt $ pick ! (λ x. split ! $ move ! (1 ∷ []) $ use1 W (raw (fact 𝓤 ((x .src ≡ s) × (x .at ≡ 0)))) (new-told x) $ heard ! ((x .src ≡ s) × (x .at ≡ 0)) (λ e. split ! $ move ! (1 ∷ []) $
+        use1 W (later (some (λ (x : Reader). ((‵ (flft κ₁ q₁) ⊛ ‵ ftrue) ⊛ ‵ (Held (κ₁, tt) .own x (u ∷ []))) ⊛ raw (ensured 𝓤 H A new.ended (new.clauses 𝓤 H A mem run) (κ₁, tt) (s, tt) tt x)))) (id⊢ 𝓤 _) $ await ! tt $ pick ! (λ x.
+        split ! $ move ! (1 ∷ []) $ use1 W (raw (fact 𝓤 ((x .src ≡ s) × (x .at ≡ 0)))) (new-told x) $ heard ! ((x .src ≡ s) × (x .at ≡ 0)) (λ e. split ! $ move ! (1 ∷ []) $
         peeks ! (Held (κ₁, tt)) (Is (Held (κ₁, tt))) (shows 𝓤 H A (Held (κ₁, tt))) x (u ∷ []) (λ is.
         land ! (from ! (stop !)) (init ! 31 refl (SL.lawful (R.the-type local) (R′.the-laws local) 𝓤 H A W .typed x _ is .0)) $
-        rewrite ! 31 (λ (z : Val). ‵ (fat fullShare (R′.mir erased) l₅ 0 z)) (lowered-at x u 0 is (λ i. record { src = e .0 i; at = e .1 i })) refl $ rewrite ! 0 (λ (z : Val). ‵ (Held (κ₁, tt) .own x (z ∷ []))) (lowered-is x u is) refl $ rewrite ! 0 (λ (z : Reader). ‵ (Held (κ₁, tt) .own z (R′.lowered z ∷ []))) (λ i. record { src = e .0 i; at = e .1 i }) refl $
+        rewrite ! 31 (λ (z : Val). ‵ (fat fullShare (R′.mir erased) l₅ 0 z)) (lowered-at x u 0 is (λ i. record { src = e .0 i; at = e .1 i })) refl $
+        rewrite ! 0 (λ (z : Val). ‵ (Held (κ₁, tt) .own x (z ∷ []))) (lowered-is x u is) refl $ rewrite ! 0 (λ (z : Reader). ‵ (Held (κ₁, tt) .own z (R′.lowered z ∷ []))) (λ i. record { src = e .0 i; at = e .1 i }) refl $
         -- what stands at the start of the run goes into _6
-        use0 W (raw (Started 𝓤 H A mem run .pre to-started)) goes-started $ calls-at ! fm (Started 𝓤 H A mem run) (known .started) to-started (and-then ! (load ! (from ! (stop !)) (look ! 40 refl)) (no-more !)) (λ v.
-        use1 W (later (some (λ (g : Going). (‵ ftrue ⊛ ‵ (G.the-row .own g (v ∷ []))) ⊛ raw (ensured 𝓤 H A started-fn.ended (started-fn.clauses 𝓤 H A mem run) tt (r, tt) tt g)))) (id⊢ 𝓤 _) $ await ! tt $ pick ! (λ g. split ! $ move ! (1 ∷ []) $ use1 W (raw (fact 𝓤 (g ≡ started r))) (started-told g) $ heard ! (g ≡ started r) (λ f. split ! $ drop ! $ peeks ! G.the-row (Is G.the-row) (shows 𝓤 H A G.the-row) g (v ∷ []) (λ js.
-        land ! (from ! (stop !)) (init ! 30 refl (SL.lawful G.the-type G′.the-laws 𝓤 H A W .typed g _ js .0)) $ rewrite ! 30 (λ (z : Val). ‵ (fat fullShare G′.mir l₆ 0 z)) (ap only (G′.lowers .val-is g _ js)) refl $ drop ! $
+        use0 W (raw (Started 𝓤 H A mem run .pre to-started)) goes-started $
+        calls-at ! fm (Started 𝓤 H A mem run) (known .started) to-started (and-then ! (load ! (from ! (stop !)) (look ! 40 refl)) (no-more !)) (λ v.
+        use1 W (later (some (λ (g : Going). (‵ ftrue ⊛ ‵ (G.the-row .own g (v ∷ []))) ⊛ raw (ensured 𝓤 H A started-fn.ended (started-fn.clauses 𝓤 H A mem run) tt (r, tt) tt g)))) (id⊢ 𝓤 _) $ await ! tt $ pick ! (λ g.
+        split ! $ move ! (1 ∷ []) $ use1 W (raw (fact 𝓤 (g ≡ started r))) (started-told g) $ heard ! (g ≡ started r) (λ f. split ! $ drop ! $
+        peeks ! G.the-row (Is G.the-row) (shows 𝓤 H A G.the-row) g (v ∷ []) (λ js.
+        land ! (from ! (stop !)) (init ! 30 refl (SL.lawful G.the-type G′.the-laws 𝓤 H A W .typed g _ js .0)) $ rewrite ! 30 (λ (z : Val). ‵ (fat fullShare G′.mir l₆ 0 z)) (ap only (G′.lowers .val-is g _ js)) refl $
+        drop ! $
         -- the loop
-        keep ! (0 ∷ 1 ∷ 6 ∷ 4 ∷ 5 ∷ 3 ∷ 2 ∷ 7 ∷ 8 ∷ 9 ∷ 10 ∷ 11 ∷ 12 ∷ 13 ∷ 14 ∷ 15 ∷ 16 ∷ 17 ∷ 18 ∷ 19 ∷ 20 ∷ 21 ∷ 22 ∷ 23 ∷ 24 ∷ 25 ∷ 26 ∷ 27 ∷ 28 ∷ 29 ∷ 30 ∷ 31 ∷ 32 ∷ 33 ∷ 34 ∷ 35 ∷ 36 ∷ 37 ∷ 38 ∷ 39 ∷ 40 ∷ 41 ∷ 42 ∷ []) $ loop-from l₀ l₁ l₂ l₃ l₄ l₅ l₆ l₇ l₈ l₉ l₁₀ l₁₁ l₁₂ l₁₃ l₁₄ l₁₅ l₁₆ l₁₇ (begun g f (subst (Is G.the-row g) (G′.lowers .val-is g _ js) js))))))))))))))))))))))))))))
+        keep ! (0 ∷ 1 ∷ 6 ∷ 4 ∷ 5 ∷ 3 ∷ 2 ∷ 7 ∷ 8 ∷ 9 ∷ 10 ∷ 11 ∷ 12 ∷ 13 ∷ 14 ∷ 15 ∷ 16 ∷ 17 ∷ 18 ∷ 19 ∷ 20 ∷ 21 ∷ 22 ∷ 23 ∷ 24 ∷ 25 ∷ 26 ∷ 27 ∷ 28 ∷ 29 ∷ 30 ∷ 31 ∷ 32 ∷ 33 ∷ 34 ∷ 35 ∷ 36 ∷ 37 ∷ 38 ∷ 39 ∷ 40 ∷ 41 ∷ 42 ∷ []) $
+        loop-from l₀ l₁ l₂ l₃ l₄ l₅ l₆ l₇ l₈ l₉ l₁₀ l₁₁ l₁₂ l₁₃ l₁₄ l₁₅ l₁₆ l₁₇ (begun g f (subst (Is G.the-row g) (G′.lowers .val-is g _ js) js))))))))))))))))))))))))))))
 
 walks : {M : Type 1} (𝓤 : URA M) (H : Heap 𝓤) (A : Atoms 𝓤) (W : Given 𝓤 H A) (mem : Memory → SProp 𝓤) (run : Routine → Fun 𝓤) (𝓣 : Tables 𝓤 H) → Known 𝓤 H A mem run (𝓣 .C)
     → Walks 𝓤 H A fn.ended back (WpFn 𝓤 H (𝓣 .C) (𝓣 .Λ) code.function) (fn.clauses 𝓤 H A mem run)
