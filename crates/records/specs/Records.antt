@@ -4,7 +4,7 @@ use mathlib.Core.Bool.{Bool, cond, not, _||_}
 use mathlib.Core.List.{List}
 use Prim.Native.Nat.{ℕ, _+_, _*_}
 use lib.Dec.{eqb, ltb}
-use lib.ListN.{length, getD}
+use lib.ListN.{length, getD, drop}
 use Rattle.circuit.specs.Groups.{badGroup}
 use Rattle.records.specs.declared.Group.{Group}
 use Rattle.records.specs.declared.Recorded.{Recorded}
@@ -42,6 +42,17 @@ item s =
     (cond (noEvent (octet s 0)) NoEvent
     (cond (ltb (length s) (octetsOf (octet s 0))) Short
     (Event (recorded s))))
+
+-- the octets of an item that is taken: an event's record has those of its kind, and nothing else is taken
+unfoldable pub takenOf : Item → ℕ
+takenOf (Event e) = octetsOf (e .kind)
+takenOf NoEvent = 0
+takenOf Short = 0
+takenOf End = 0
+
+-- the place behind what stands at a place of a trace
+unfoldable pub behind : List ℕ → ℕ → ℕ
+behind s at = at + takenOf (item (drop at s))
 
 -- the group's record
 abbrev pub ownIn : List ℕ → ℕ

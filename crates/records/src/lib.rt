@@ -2,9 +2,9 @@
 // that holds a trace and its place there.
 use circuit::PointCode;
 ghost use mathlib.Core.Path.{_≡_};
-ghost use Prim.Native.Nat.{_+_, _^_, _≤_, _<_};
+ghost use Prim.Native.Nat.{_≤_};
 ghost use lib.ListN.{length, drop};
-ghost use Rattle.records.specs.Records.{octetsOf, octet, two, detailOf, recorded, item, refusedStart, groupIn};
+ghost use Rattle.records.specs.Records.{octetsOf, two, detailOf, recorded, item, behind, refusedStart, groupIn};
 
 // What an event's record says: kind 1 a signal and its heading, 2 a command, 3 a timer, whose detail is 0.
 pub struct Recorded {
@@ -43,17 +43,20 @@ pub fn octets_of(kind: u8) -> usize
     }
 }
 
-fn octet(s: &[u8], at: usize) -> u8
-    ensures { λ r. ⌜ r ≡ octet (now (s .entry)) at ⌝ }
-{
-    if at < s.len() { s[at] } else { 0 }
-}
-
+// The number of two octets, lowest first.
 fn two(s: &[u8], at: usize) -> u16
-    requires { ⌜ at + 1 < 2 ^ 64 ⌝ }
     ensures { λ r. ⌜ r ≡ two (now (s .entry)) at ⌝ }
 {
-    octet(s, at) as u16 + 256 * octet(s, at + 1) as u16
+    words::number(
+        words::octet(s, at, 0),
+        words::octet(s, at, 1),
+        0,
+        0,
+        0,
+        0,
+        0,
+        0,
+    ) as u16
 }
 
 fn detail(kind: u8, octet: u8) -> u8
@@ -66,12 +69,12 @@ fn recorded_at(s: &[u8], at: usize) -> Recorded
     requires { ⌜ at ≤ length (now s) ⌝ }
     ensures { λ r. ⌜ r ≡ recorded (drop at (now (s .entry))) ⌝ }
 {
-    let kind = octet(s, at);
+    let kind = words::octet(s, at, 0);
     Recorded {
         kind: kind,
         circuit: two(s, at + 1),
-        code: octet(s, at + 3),
-        detail: detail(kind, octet(s, at + 4)),
+        code: words::octet(s, at, 3),
+        detail: detail(kind, words::octet(s, at, 4)),
     }
 }
 
@@ -82,7 +85,7 @@ pub fn item_at(s: &[u8], at: usize) -> Item
     if s.len() <= at {
         return Item::End;
     }
-    let kind = octet(s, at);
+    let kind = words::octet(s, at, 0);
     if circuit::either(kind == 0, 3 < kind) {
         return Item::NoEvent;
     }
@@ -99,7 +102,10 @@ pub fn refused_start(s: &[u8]) -> bool
     let own = PointCode(two(s, 1) as u32);
     let far = PointCode(two(s, 3) as u32);
     let circuits = two(s, 5) as usize;
-    circuit::either(octet(s, 0) != 0, circuit::bad_group(own, far, circuits))
+    circuit::either(
+        words::octet(s, 0, 0) != 0,
+        circuit::bad_group(own, far, circuits),
+    )
 }
 
 pub fn group_in(s: &[u8]) -> Group
@@ -112,7 +118,20 @@ pub fn group_in(s: &[u8]) -> Group
     }
 }
 
-// A trace and the place of its next record. Its functions are thin: what stands at a place is `item_at`'s to say.
+// The place behind the event's record that stands at a place; where none does, the place itself.
+pub fn behind_at(s: &[u8], at: usize) -> usize
+    ensures { λ r. ⌜ r ≡ behind (now (s .entry)) at ⌝ }
+{
+    match item_at(s, at) {
+        Item::Event(e) => at + octets_of(e.kind),
+        Item::NoEvent => at,
+        Item::Short => at,
+        Item::End => at,
+    }
+}
+
+// A trace and the place of its next record. Its functions are thin: what stands at a place, and where the next record does, are for
+// `item_at` and `behind_at` to say.
 pub struct Reader<'a> {
     pub src: &'a [u8],
     pub at: usize,
@@ -124,23 +143,17 @@ pub fn new<'a>(src: &'a [u8]) -> Reader<'a>
     Reader { src, at: 0 }
 }
 
-// The same trace at another place.
-pub fn moved<'a>(r: Reader<'a>, at: usize) -> Reader<'a>
-    ensures { λ q. ⌜ (q .src ≡ r .entry .src) × (q .at ≡ at) ⌝ }
-{
-    Reader { src: r.src, at }
-}
-
-// The record at the reader's place.
-pub fn next<'a>(r: Reader<'a>) -> Item
+// What stands at the reader's place.
+pub fn here<'a>(r: Reader<'a>) -> Item
     ensures { λ i. ⌜ i ≡ item (drop (r .entry .at) (now (r .entry .src))) ⌝ }
 {
     item_at(r.src, r.at)
 }
 
-// The record at a place of a trace, by way of a reader: for callers that have a slice and a number.
-pub fn record_at(s: &[u8], at: usize) -> Item
-    ensures { λ i. ⌜ i ≡ item (drop at (now (s .entry))) ⌝ }
+// The reader behind the event's record at its place; where none stands there, it stays.
+pub fn next<'a>(r: Reader<'a>) -> Reader<'a>
+    ensures { λ q. ⌜ (q .src ≡ r .entry .src) × (q .at ≡ behind (now (r .entry .src)) (r .entry .at)) ⌝ }
 {
-    next(moved(new(s), at))
+    let at = behind_at(r.src, r.at);
+    Reader { src: r.src, at }
 }

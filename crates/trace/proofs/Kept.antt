@@ -12,7 +12,7 @@ use borrow.Author.Tests.{lt-ltb, le-ltb}
 use Rattle.text.specs.Writing.{Printed}
 use Rattle.words.specs.Octets.{over}
 use Rattle.trace.specs.Feed.{kept}
-use Rattle.trace.proofs.Runs.{fitsRoom}
+use Rattle.trace.proofs.Loop.{fitsRoom}
 
 module _ (p : List ℕ) (at i : ℕ) (h : at + i < length p) where
   x : List ℕ

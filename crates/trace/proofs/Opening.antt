@@ -8,7 +8,7 @@ use native.Mathlib.Omega.{arith}
 use lib.Dec.{ltb}
 use lib.ListN.{length}
 use borrow.Author.Tests.{lt-ltb, le-ltb}
-use Rattle.text.specs.Numbers.{byTest}
+use Rattle.text.proofs.Numbers.{byTest}
 use Rattle.text.specs.Lines.{groupLine}
 use Rattle.text.specs.Writing.{Printed, inRoom, lineRoom}
 use Rattle.words.specs.Octets.{over}
@@ -19,7 +19,7 @@ use Rattle.trace.specs.declared.Fed.{Fed}
 use Rattle.records.specs.Records.{octetsOf, refusedStart}
 use Rattle.trace.specs.Replay.{opened}
 use Rattle.trace.specs.Feed.{Part, answerOf, stays, begins}
-use Rattle.trace.proofs.Runs.{fitsRoom}
+use Rattle.trace.proofs.Loop.{fitsRoom}
 
 -- an answer and the room after it are those of a part
 abbrev pub Begun : Fed → List ℕ → List ℕ → List ℕ → Part → Type 0

@@ -3,7 +3,7 @@
 use mathlib.Core.Path.{_≡_, refl, ap, sym, _∙_}
 use mathlib.Core.Bool.{Bool, true, false}
 use mathlib.Core.List.{List, []}
-use Prim.Native.Nat.{ℕ, _+_, _-_, _≤_, _<_}
+use Prim.Native.Nat.{ℕ, _+_, _-_, _^_, _≤_, _<_}
 use native.Mathlib.Omega.{arith}
 use lib.ListN.{length, drop}
 use borrow.Author.Tests.{le-ltb, le-leb, lt-leb, lt-ltb}
@@ -11,6 +11,7 @@ use Rattle.codes.specs.declared.Found.{Found}
 use Rattle.codes.specs.Numbers.{eventOf}
 use Rattle.group.specs.declared.Answer.{Answer}
 use Rattle.group.specs.Table.{stepIn}
+use Rattle.words.specs.Words.{largest}
 use Rattle.text.specs.declared.Line.{Line}
 use Rattle.text.specs.Lines.{line}
 use Rattle.text.specs.Writing.{Printed, inRoom, lineRoom}
@@ -22,7 +23,8 @@ use Rattle.trace.specs.declared.Running.{Running}
 use Rattle.trace.specs.declared.Turn.{Turn}
 use Rattle.records.specs.Records.{octetsOf, item}
 use Rattle.trace.specs.Replay.{happens, lineOf, eventText}
-use Rattle.trace.specs.Feed.{Share, noTurn, noShare, turnOf, shareOf, share}
+use Rattle.trace.specs.Feed.{Share, noShare, shareOf, share, shareAt}
+use Rattle.trace.specs.Way.{noTurn, turnOf}
 
 -- a turn, the table and the room after it are a share's
 abbrev pub Lands : Turn → List ℕ → List ℕ → List ℕ → Share → Type 0
@@ -43,15 +45,15 @@ module _ (r : Running) (table : List ℕ) (e : Recorded) (found : Found) (a : An
       let w : inRoom room (line l) ≡ eventText r table e = rw (le-ltb (length room) lineRoom h, x) in
       (rw (p .count, w, q), (rw (t, f), rw (p .room, w)))
 
-module _ (r : Running) (table s room : List ℕ) where
-  pub noRoom : length room < lineRoom → Lands noTurn table room room (share r table s (length room))
-  unfolding share
+module _ (i : Item) (r : Running) (table room : List ℕ) where
+  pub noRoom : length room < lineRoom → Lands noTurn table room room (shareAt i r table (length room))
+  unfolding shareAt
   noRoom h = rw (lt-leb lineRoom (length room) h) (refl, (refl, refl))
 
-  pub noOrdinal : r .next ≡ 18446744073709551615 → lineRoom ≤ length room → Lands noTurn table room room (share r table s (length room))
-  unfolding share
+  pub noOrdinal : r .next ≡ largest → lineRoom ≤ length room → Lands noTurn table room room (shareAt i r table (length room))
+  unfolding shareAt
   noOrdinal e h = rw (le-leb lineRoom (length room) h, e) (refl, (refl, refl))
 
-  pub mayTake : lineRoom ≤ length room → (r .next ≡ 18446744073709551615 → ⊥) → r .next < 18446744073709551616 → share r table s (length room) ≡ shareOf (item s) r table
-  unfolding share
-  mayTake h e f = rw (le-leb lineRoom (length room) h, lt-ltb (r .next) 18446744073709551615 (omega arith))
+  pub mayTake : lineRoom ≤ length room → (r .next ≡ largest → ⊥) → r .next < 2 ^ 64 → shareAt i r table (length room) ≡ shareOf i r table
+  unfolding shareAt
+  mayTake h e f = rw (le-leb lineRoom (length room) h, lt-ltb (r .next) largest (omega arith))

@@ -1,18 +1,7 @@
--- What a replay prints, at the cases of document 01: the whole case, octet by octet, and the ends and refusals that its rules name.
+-- Document 01's whole case ("The trace and its replay"): the octets of its trace, and the text that it must give.
 -- Assumes nothing.
-use mathlib.Core.Path.{_≡_, refl}
 use mathlib.Core.List.{List, [], _∷_}
 use Prim.Native.Nat.{ℕ}
-use Rattle.text.specs.Numbers.{digitsWithin, decimal}
-use Rattle.text.specs.Lines.{field, stateAndFlags, headings, line, groupLine, endLine, cutLine}
-use Rattle.codes.specs.Numbers.{eventOf}
-use Rattle.step.specs.Step.{step, stepFound}
-use Rattle.group.specs.Table.{stepIn}
-use Rattle.words.specs.Words as words
-use Rattle.layout.specs.Layout.{recordsIn, counterIn, stateAt, flagsAt, flagsOf, recordOf, put, putCounter, putRank}
-use Rattle.circuit.specs.Rows.{first}
-use Rattle.records.specs.Records.{octetsOf, recorded, item}
-use Rattle.trace.specs.Replay.{happens, textAt, linesWithin, lines, replay}
 
 -- document 01's whole case: a record a line
 abbrev pub wholeCase : List ℕ
@@ -36,7 +25,3 @@ wholeText =
     53 ∷ 32 ∷ 49 ∷ 32 ∷ 53 ∷ 32 ∷ 48 ∷ 32 ∷ 48 ∷ 32 ∷ 48 ∷ 32 ∷ 45 ∷ 10 ∷
     101 ∷ 110 ∷ 100 ∷ 32 ∷ 53 ∷ 10 ∷
     []
-
-pub theWholeCase : replay wholeCase ≡ wholeText
-unfolding first words.number words.put recordsIn counterIn stateAt flagsAt flagsOf recordOf put putCounter putRank replay lines linesWithin textAt item recorded octetsOf happens stepIn stepFound step eventOf line groupLine endLine cutLine field stateAndFlags headings decimal digitsWithin
-theWholeCase = refl

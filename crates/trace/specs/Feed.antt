@@ -2,19 +2,18 @@
 -- Assumes nothing.
 use mathlib.Core.Bool.{Bool, true, false, cond, _&&_}
 use mathlib.Core.List.{List, [], _++_}
-use Prim.Native.Nat.{ℕ, zero, suc, _+_, _-_, _*_, min}
+use Prim.Native.Nat.{ℕ, zero, suc, _+_, _-_, min}
 use lib.Dec.{eqb, leb, ltb}
 use lib.ListN.{length, take, drop}
 use Rattle.layout.specs.Layout as grouped
+use Rattle.words.specs.Words.{largest}
 use Rattle.text.specs.Lines.{groupLine, endLine, cutLine, badGroupLine}
 use Rattle.text.specs.Writing.{lineRoom}
-use Rattle.records.specs.declared.Recorded.{Recorded}
 use Rattle.records.specs.declared.Item.{Item}
 use Rattle.records.specs.declared.Item.the-variants.{Event, NoEvent, Short, End}
 use Rattle.trace.specs.declared.Running.{Running}
 use Rattle.trace.specs.declared.Stage.{Stage}
 use Rattle.trace.specs.declared.Stage.the-variants.{Start, Bad, Runs, Cut}
-use Rattle.trace.specs.declared.Turn.{Turn}
 use Rattle.trace.specs.declared.Fed.{Fed}
 use Rattle.records.specs.Records.{octetsOf, item, ownIn, farIn, circuitsIn, refusedStart}
 use Rattle.trace.specs.Replay.{happens, eventText, onward, opened}
@@ -37,7 +36,7 @@ noShare table = record { taken = 0; text = []; table = table }
 
 -- an event is taken where the room has the octets of any line and a further ordinal fits 64 bits
 abbrev pub mayGo : Running → ℕ → Bool
-mayGo r room = leb lineRoom room && ltb (r .next) 18446744073709551615
+mayGo r room = leb lineRoom room && ltb (r .next) largest
 
 abbrev pub shareOf : Item → Running → List ℕ → Share
 shareOf (Event e) r table = record { taken = octetsOf (e .kind); text = eventText r table e; table = happens r table e .table }
@@ -45,15 +44,13 @@ shareOf NoEvent r table = noShare table
 shareOf Short r table = noShare table
 shareOf End r table = noShare table
 
-abbrev pub noTurn : Turn
-noTurn = record { taken = 0; written = 0 }
-
-abbrev pub turnOf : Share → Turn
-turnOf h = record { taken = h .taken; written = length (h .text) }
+-- what was read is taken where it may go
+unfoldable pub shareAt : Item → Running → List ℕ → ℕ → Share
+shareAt i r table room = cond (mayGo r room) (shareOf i r table) (noShare table)
 
 -- the event at the start, where one stands there whole
-unfoldable pub share : Running → List ℕ → List ℕ → ℕ → Share
-share r table s room = cond (mayGo r room) (shareOf (item s) r table) (noShare table)
+abbrev pub share : Running → List ℕ → List ℕ → ℕ → Share
+share r table s room = shareAt (item s) r table room
 
 -- where a run stops: cut before what is no event, else it waits for more
 abbrev pub stageAt : Item → Running → Stage

@@ -1,5 +1,5 @@
 pub mod Replay
 pub mod Feed
-pub mod Runs
 pub mod Parts
 pub mod Cases
+pub mod Way

@@ -12,9 +12,14 @@ ghost use Prim.Native.Nat.{_+_, _-_, _^_, _≤_, _<_, min};
 ghost use lib.ListN.{length, drop};
 ghost use Rattle.text.specs.Writing.{Printed, inRoom};
 ghost use Rattle.words.specs.Octets.{over};
+ghost use Rattle.words.specs.Words.{largest};
 ghost use Rattle.records.specs.Records.{item};
 ghost use Rattle.trace.specs.Replay.{lineOf, onward, opened};
-ghost use Rattle.trace.specs.Feed.{noTurn, turnOf, shareOf, share, stageAt, answerOf, run, stays, begins, fed, isOver, tableOctets, lastLine, kept};
+ghost use Rattle.trace.specs.Feed.{shareOf, shareAt, stageAt, answerOf, run, stays, begins, fed, isOver, tableOctets, lastLine, kept};
+ghost use Rattle.trace.specs.Way.{noTurn, turnOf, started, Goes, ended, Ran};
+
+// The largest ordinal; an event that has it is not taken, since none could follow.
+const LAST: u64 = 0xffffffffffffffff;
 
 // A replay behind its group: the two codes, how many circuits there are, and the next event's ordinal.
 pub struct Running {
@@ -36,6 +41,13 @@ pub enum Stage {
 pub struct Turn {
     pub taken: usize,
     pub written: usize,
+}
+
+// Where the run of events in a part stands: the replay, how many octets of the room are written, and whether no further event can be taken.
+pub struct Going {
+    pub here: Running,
+    pub written: usize,
+    pub over: bool,
 }
 
 // How many octets of the part were taken and how many of the room written, and where the replay stands then.
@@ -102,23 +114,23 @@ fn one_item(i: Item, r: Running, table: &mut [u8], room: &mut [u8]) -> Turn
     }
 }
 
-// The event at a place of the part, where one stands there whole, the room has a line's octets and there is a further ordinal.
-fn one_event(r: Running, table: &mut [u8], part: &[u8], at: usize, room: &mut [u8]) -> Turn
-    ensures answers { λ t. ⌜ t ≡ turnOf (share r (now (table .entry)) (drop at (now (part .entry))) (length (now (room .entry)))) ⌝ }
-    ensures leaves { λ t. ⌜ now (table .exit) ≡ share r (now (table .entry)) (drop at (now (part .entry))) (length (now (room .entry))) .table ⌝ }
-    ensures writes { λ t. ⌜ now (room .exit) ≡ over (share r (now (table .entry)) (drop at (now (part .entry))) (length (now (room .entry))) .text) (now (room .entry)) ⌝ }
+// An event that was read, where the room has a line's octets and there is a further ordinal; else none.
+fn one_event(i: Item, r: Running, table: &mut [u8], room: &mut [u8]) -> Turn
+    ensures answers { λ t. ⌜ t ≡ turnOf (shareAt i r (now (table .entry)) (length (now (room .entry)))) ⌝ }
+    ensures leaves { λ t. ⌜ now (table .exit) ≡ shareAt i r (now (table .entry)) (length (now (room .entry))) .table ⌝ }
+    ensures writes { λ t. ⌜ now (room .exit) ≡ over (shareAt i r (now (table .entry)) (length (now (room .entry))) .text) (now (room .entry)) ⌝ }
 {
     if room.len() < text::LINE {
         return no_turn();
     }
-    if r.next == 18446744073709551615 {
+    if r.next == LAST {
         return no_turn();
     }
-    one_item(records::record_at(part, at), r, table, room)
+    one_item(i, r, table, room)
 }
 
 fn onward(r: Running) -> Running
-    requires { ⌜ r .next < 18446744073709551615 ⌝ }
+    requires { ⌜ r .next < largest ⌝ }
     ensures { λ q. ⌜ q ≡ onward r ⌝ }
 {
     let own = r.own;
@@ -142,30 +154,64 @@ fn stage_at(i: Item, r: Running) -> Stage
     }
 }
 
-// Event after event, until none can be taken.
-fn run(r: Running, table: &mut [u8], part: &[u8], room: &mut [u8]) -> Fed
-    ensures answers { λ a. ⌜ a ≡ answerOf (run r (now (table .entry)) (now (part .entry)) (length (now (room .entry)))) ⌝ }
-    ensures leaves { λ a. ⌜ now (table .exit) ≡ run r (now (table .entry)) (now (part .entry)) (length (now (room .entry))) .table ⌝ }
-    ensures writes { λ a. ⌜ now (room .exit) ≡ over (run r (now (table .entry)) (now (part .entry)) (length (now (room .entry))) .text) (now (room .entry)) ⌝ }
-    ensures within { λ a. ⌜ (a .taken ≤ length (now (part .entry))) × (a .written ≤ length (now (room .entry))) ⌝ }
+fn started(r: Running) -> Going
+    ensures { λ g. ⌜ g ≡ started r ⌝ }
 {
-    let mut here = r;
-    let mut at = 0;
-    let mut out = 0;
-    loop {
-        let t = one_event(here, table, part, at, &mut room[out..]);
-        if t.taken == 0 {
-            break;
-        }
-        at += t.taken;
-        out += t.written;
-        here = onward(here);
+    Going {
+        here: r,
+        written: 0,
+        over: false,
     }
+}
+
+// One event more, where one can be taken of what was read.
+fn one_turn(i: Item, g: Going, table: &mut [u8], room: &mut [u8]) -> Going
+    requires { ⌜ g .written ≤ length (now room) ⌝ }
+    ensures { λ q. ⌜ Goes i g (now (table .entry)) (now (room .entry)) q (now (table .exit)) (now (room .exit)) ⌝ }
+{
+    let here = g.here;
+    let out = g.written;
+    let t = one_event(i, here, table, &mut room[out..]);
+    if t.taken == 0 {
+        return Going {
+            here: here,
+            written: out,
+            over: true,
+        };
+    }
+    let next = onward(here);
+    Going {
+        here: next,
+        written: out + t.written,
+        over: false,
+    }
+}
+
+fn ended(i: Item, at: usize, g: Going) -> Fed
+    ensures { λ a. ⌜ a ≡ ended i at g ⌝ }
+{
+    let here = g.here;
     Fed {
         taken: at,
-        written: out,
-        stage: stage_at(records::record_at(part, at), here),
+        written: g.written,
+        stage: stage_at(i, here),
     }
+}
+
+// Event after event, until none can be taken. One reader goes through the part, from record to record.
+fn run(r: Running, table: &mut [u8], part: &[u8], room: &mut [u8]) -> Fed
+    ensures { λ a. ⌜ Ran r (now (table .entry)) (now (part .entry)) (now (room .entry)) a (now (table .exit)) (now (room .exit)) ⌝ }
+{
+    let mut reader = records::new(part);
+    let mut g = started(r);
+    loop {
+        g = one_turn(records::here(reader), g, table, room);
+        if g.over {
+            break;
+        }
+        reader = records::next(reader);
+    }
+    ended(records::here(reader), reader.at, g)
 }
 
 fn stay(stage: Stage) -> Fed

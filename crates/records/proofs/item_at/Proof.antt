@@ -1,7 +1,7 @@
 -- `records::item_at` meets its contract.
 -- Assumes nothing.
 use Rattle.records.specs.declared.Item.the-variants.{Event}
-use Rattle.records.proofs.Items.{endsAt, noEventAt, shortAt, eventAt}
+use Rattle.records.proofs.Items.{octet-first, endsAt, noEventAt, shortAt, eventAt}
 use Rattle.records.specs.Records.{noEvent, octetsOf}
 use native.Mathlib.Omega.{arith}
 use mathlib.Core.Path.{_≡_, sym, ap, _∙_}
@@ -19,7 +19,9 @@ either-requires : tie.Need-either-requires
 either-requires c κs = search needs
 
 returns-2 : tie.Need-returns-2
-returns-2 c = sym (noEventAt _ _ (c .before .before .before .if1 .left) (ap noEvent (sym (c .before .before .octet .ensures)) ∙ sym (c .before .either .ensures) ∙ c .if2 .taken))
+returns-2 c =
+    let a = c .before .before .before .before .before .args in
+    sym (noEventAt _ _ (c .before .before .before .if1 .left) (ap noEvent (sym (c .before .before .octet .ensures ∙ octet-first (a .s .now) (a .at))) ∙ sym (c .before .either .ensures) ∙ c .if2 .taken))
 
 sub-if3 : tie.Need-sub-if3
 sub-if3 c = search needs
@@ -29,7 +31,8 @@ octets-of-requires c κs = search needs
 
 returns-3 : tie.Need-returns-3
 returns-3 c =
-    let o = c .before .before .before .before .octet .ensures in
+    let a = c .before .before .before .before .before .before .before .args in
+    let o = c .before .before .before .before .octet .ensures ∙ octet-first (a .s .now) (a .at) in
     sym (shortAt _ _ (c .before .before .before .before .before .if1 .left) (ap noEvent (sym o) ∙ sym (c .before .before .before .either .ensures) ∙ c .before .before .if2 .left) (omega (arith, c .if3 .taken, c .before .octets-of .ensures, ap octetsOf o)))
 
 recorded-at-requires : tie.Need-recorded-at-requires
@@ -37,7 +40,8 @@ recorded-at-requires c κs = search needs
 
 returns-4 : tie.Need-returns-4
 returns-4 c =
-    let o = c .before .before .before .before .before .octet .ensures in
+    let a = c .before .before .before .before .before .before .before .before .args in
+    let o = c .before .before .before .before .before .octet .ensures ∙ octet-first (a .s .now) (a .at) in
     ap Event (c .recorded-at .ensures) ∙ sym (eventAt _ _ (c .before .before .before .before .before .before .if1 .left) (ap noEvent (sym o) ∙ sym (c .before .before .before .before .either .ensures) ∙ c .before .before .before .if2 .left) (omega (arith, c .before .if3 .left, c .before .before .octets-of .ensures, ap octetsOf o)))
 
 pub item-at-spec : {M : Type 1} → statement M

@@ -16,14 +16,8 @@ add-two c = search needs
 two-requires : tie.Need-two-requires
 two-requires c κs = search needs
 
-add-octet : tie.Need-add-octet
-add-octet c = search needs
-
 octet-requires-2 : tie.Need-octet-requires-2
 octet-requires-2 c κs = search needs
-
-add-octet-2 : tie.Need-add-octet-2
-add-octet-2 c = search needs
 
 octet-requires-3 : tie.Need-octet-requires-3
 octet-requires-3 c κs = search needs
@@ -44,9 +38,7 @@ recorded-at-spec =
     octet-requires
     add-two
     two-requires
-    add-octet
     octet-requires-2
-    add-octet-2
     octet-requires-3
     detail-requires
     returns)

@@ -3,8 +3,8 @@
 use Prim.Native.Nat.{ℕ, _<_}
 use native.Mathlib.Omega.{arith}
 use borrow.Author.Needs.{needs}
-use Rattle.text.specs.Numbers.{decimal-small-length, decimal-longer}
-use Rattle.text.specs.Writing.{small, large}
+use Rattle.text.proofs.Numbers.{decimal-small-length, decimal-longer}
+use Rattle.text.proofs.Writing.{small, large}
 use borrow.Fn.Kinds.{In}
 use borrow.Fn.PlainCycle.{Measures, is, falls, and}
 use Rattle.text.proofs.digits.Reads as digits

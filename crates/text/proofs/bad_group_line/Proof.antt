@@ -1,6 +1,6 @@
 -- `text::bad_group_line` meets its contract.
 -- Assumes nothing.
-use Rattle.text.specs.Writing.{whole, nothing}
+use Rattle.text.proofs.Writing.{whole, nothing}
 use native.Mathlib.Omega.{arith}
 use borrow.Author.Needs.{needs}
 use Rattle.text.proofs.bad_group_line.Statement.{statement}

@@ -1,7 +1,7 @@
 -- `text::cut_line` meets its contract.
 -- Assumes nothing.
 use Rattle.text.specs.Lines.{cutLine}
-use Rattle.text.specs.Writing.{whole, nothing}
+use Rattle.text.proofs.Writing.{whole, nothing}
 use native.Mathlib.Omega.{arith}
 use borrow.Author.Needs.{needs}
 use Rattle.text.proofs.cut_line.Statement.{statement}

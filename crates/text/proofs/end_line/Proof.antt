@@ -1,7 +1,7 @@
 -- `text::end_line` meets its contract.
 -- Assumes nothing.
 use Rattle.text.specs.Lines.{endLine}
-use Rattle.text.specs.Writing.{whole, nothing}
+use Rattle.text.proofs.Writing.{whole, nothing}
 use native.Mathlib.Omega.{arith}
 use borrow.Author.Needs.{needs}
 use Rattle.text.proofs.end_line.Statement.{statement}

@@ -1,8 +1,8 @@
 -- `text::field` meets its contract.
 -- Assumes nothing.
 use Rattle.text.specs.Lines.{field}
-use Rattle.text.specs.Writing.{then}
-use Rattle.text.specs.Numbers.{decimal-64}
+use Rattle.text.proofs.Writing.{then}
+use Rattle.text.proofs.Numbers.{decimal-64}
 use native.Mathlib.Omega.{arith}
 use borrow.Author.Needs.{needs}
 use Rattle.text.proofs.field.Statement.{statement}

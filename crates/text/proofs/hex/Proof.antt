@@ -1,6 +1,6 @@
 -- `text::hex` meets its contract.
 -- Assumes nothing.
-use Rattle.text.specs.Writing.{then}
+use Rattle.text.proofs.Writing.{then}
 use borrow.Author.Needs.{needs}
 use Rattle.text.proofs.hex.Statement.{statement}
 use Rattle.text.proofs.hex.Tie as tie

@@ -1,7 +1,7 @@
 -- `text::state_and_flags` meets its contract.
 -- Assumes nothing.
 use Rattle.text.specs.Lines.{stateAndFlags}
-use Rattle.text.specs.Writing.{then}
+use Rattle.text.proofs.Writing.{then}
 use borrow.Author.Tests.{ne-eqb}
 use native.Mathlib.Omega.{arith}
 use borrow.Author.Needs.{needs}

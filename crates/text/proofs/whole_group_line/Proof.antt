@@ -1,8 +1,8 @@
 -- `text::whole_group_line` meets its contract.
 -- Assumes nothing.
 use Rattle.text.specs.Lines.{groupLine}
-use Rattle.text.specs.Writing.{then}
-use Rattle.text.specs.Numbers.{decimal-64}
+use Rattle.text.proofs.Writing.{then}
+use Rattle.text.proofs.Numbers.{decimal-64}
 use native.Mathlib.Omega.{arith}
 use borrow.Author.Needs.{needs}
 use Rattle.text.proofs.whole_group_line.Statement.{statement}

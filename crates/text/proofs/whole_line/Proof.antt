@@ -1,7 +1,7 @@
 -- `text::whole_line` meets its contract.
 -- Assumes nothing.
 use Rattle.text.specs.Lines.{line}
-use Rattle.text.specs.Writing.{then}
+use Rattle.text.proofs.Writing.{then}
 use mathlib.Core.Path.{_∙_}
 use native.Mathlib.Omega.{arith}
 use borrow.Author.Needs.{needs}

@@ -1,6 +1,6 @@
 -- `text::word` meets its contract.
 -- Assumes nothing.
-use Rattle.text.specs.Writing.{wordMore}
+use Rattle.text.proofs.Writing.{wordMore}
 use borrow.Author.Needs.{needs}
 use lib.Seq.{sets, take-length}
 use lib.ListN.{length, take, length-set}

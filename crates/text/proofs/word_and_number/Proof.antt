@@ -1,7 +1,7 @@
 -- `text::word_and_number` meets its contract.
 -- Assumes nothing.
-use Rattle.text.specs.Writing.{then}
-use Rattle.text.specs.Numbers.{decimal-64}
+use Rattle.text.proofs.Writing.{then}
+use Rattle.text.proofs.Numbers.{decimal-64}
 use native.Mathlib.Omega.{arith}
 use borrow.Author.Needs.{needs}
 use Rattle.text.proofs.word_and_number.Statement.{statement}

@@ -53,7 +53,7 @@ same-length-3 c = search needs
 
 returns-3 : tie.Need-returns-3
 unfolding fed
-returns-3 c = rw (c .before .before .before .before .before .before .before .before .stage .given .1) (c .before .before .before .before .run .ensures)
+returns-3 c = rw (c .before .before .before .before .before .before .before .before .stage .given .1) (let w = c .before .before .before .before .run .ensures in (w .answers, (w .leaves, (w .writes, w .within))))
 
 returns-4 : tie.Need-returns-4
 unfolding fed

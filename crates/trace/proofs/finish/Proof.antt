@@ -1,6 +1,6 @@
 -- `trace::finish` meets its contract.
 -- Assumes nothing.
-use Rattle.trace.proofs.Runs.{printedIn}
+use Rattle.trace.proofs.Loop.{printedIn}
 -- `trace::finish` meets its contract.
 -- Assumes nothing.
 use Rattle.trace.specs.Feed.{lastLine}

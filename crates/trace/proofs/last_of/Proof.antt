@@ -1,6 +1,6 @@
 -- `trace::last_of` meets its contract.
 -- Assumes nothing.
-use Rattle.trace.proofs.Runs.{printedIn}
+use Rattle.trace.proofs.Loop.{printedIn}
 -- `trace::last_of` meets its contract.
 -- Assumes nothing.
 use Rattle.trace.specs.Feed.{lastLine}

@@ -1,6 +1,5 @@
 -- `trace::one_event` meets its contract.
 -- Assumes nothing.
-use lib.ListN.{drop}
 use Rattle.trace.proofs.Turns.{noRoom, noOrdinal, mayTake}
 use borrow.Author.Needs.{needs}
 use Rattle.trace.proofs.one_event.Statement.{statement}
@@ -18,9 +17,6 @@ no-turn-requires-2 c κs = search needs
 returns-2 : tie.Need-returns-2
 returns-2 c = rw (c .no-turn2 .ensures) (noOrdinal _ _ _ _ (c .before .if2 .taken) (c .before .before .before .if1 .left))
 
-record-at-requires : tie.Need-record-at-requires
-record-at-requires c κs = search needs
-
 one-item-requires : tie.Need-one-item-requires
 one-item-requires c κs = search needs
 
@@ -32,8 +28,9 @@ same-length-2 c = search needs
 
 returns-3 : tie.Need-returns-3
 returns-3 c =
-    let a = c .before .before .before .before .before .before .before .before .before .before .before .before .before .before .args in
-    rw (mayTake (a .r) (a .table .now) (drop (a .at) (a .part .now)) (a .room .now) (c .before .before .before .before .before .before .before .before .before .before .if1 .left) (c .before .before .before .before .before .before .before .before .if2 .left) (search needs), ← c .before .before .before .before .before .before .before .record-at .ensures) (c .before .before .before .before .one-item .ensures)
+    let d = c .before .before .before .before .before .before .before in
+    let a = d .before .before .before .before .before .args in
+    rw (mayTake (a .i) (a .r) (a .table .now) (a .room .now) (d .before .before .if1 .left) (d .if2 .left) (search needs)) (c .before .before .before .before .one-item .ensures)
 
 pub one-event-spec : {M : Type 1} → statement M
 one-event-spec =
@@ -43,7 +40,6 @@ one-event-spec =
     returns
     no-turn-requires-2
     returns-2
-    record-at-requires
     one-item-requires
     same-length
     same-length-2
