@@ -3,7 +3,7 @@
 ghost use mathlib.Core.Path.{_≡_};
 ghost use mathlib.Core.Bool.{_&&_, _||_};
 ghost use Rattle.circuit.specs.Records.{flagsAllowed, onlyFar, valid};
-ghost use Rattle.circuit.specs.Groups.{badCode, badGroup, controls};
+ghost use Rattle.circuit.specs.Groups.{badCode, badGroup, lowest, controls};
 
 // A point code (0..16383) and a circuit number (CIC, 0..4095) are separate things: one never stands for the other. Each holds any 32-bit
 // number, so that a number which is out of range arrives here as it is and is refused.
@@ -140,15 +140,18 @@ pub fn bad_group(own: PointCode, far: PointCode, records: usize) -> bool
     )
 }
 
-// Whether the end with the code `own` controls the circuit (Q.724, 2.5).
+// The lowest circuit that the end with the code `own` controls: it controls every second one from there on (Q.724, 2.5).
+pub fn lowest(own: PointCode, far: PointCode) -> u32
+    ensures { λ r. ⌜ r ≡ lowest (own .0) (far .0) ⌝ }
+{
+    if far.0 < own.0 { 0 } else { 1 }
+}
+
+// Whether the end with the code `own` controls the circuit.
 pub fn controls(own: PointCode, far: PointCode, cic: Cic) -> bool
     ensures { λ r. ⌜ r ≡ controls (own .0) (far .0) (cic .0) ⌝ }
 {
-    if far.0 < own.0 {
-        cic.0 % 2 == 0
-    } else {
-        cic.0 % 2 == 1
-    }
+    cic.0 % 2 == lowest(own, far)
 }
 
 fn flags_allowed(rec: Record) -> bool

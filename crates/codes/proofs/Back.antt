@@ -162,32 +162,78 @@ unknown s h = absurd (subst T (ap is h) tt)
     is (Known s) = false
     is Unknown = true
 
-abbrev Has : (heading : ℕ) → Signal → Type 0
-Has heading s = headingOf s ≡ heading
-
-failingHas : (heading : ℕ) (n : NamedFailure) (s : Signal) → failureOf heading ≡ n → failing n ≡ Known s → Has heading s × (octetOf s ≡ 0)
+failingHas : (heading : ℕ) (n : NamedFailure) (s : Signal) → failureOf heading ≡ n → failing n ≡ Known s → (headingOf s ≡ heading) × (octetOf s ≡ 0)
 failingHas heading (IsFailure f) s e h =
     let q : Fail f ≡ s = ap (signal (Fail f)) h in
     (ap headingOf (sym q) ∙ failureHas heading (Sec ∷ Cgc ∷ Nnc ∷ Adi ∷ Cfl ∷ Ssb ∷ Unn ∷ Los ∷ Sst ∷ []) f e, ap octetOf (sym q))
 failingHas heading NoFailure s e h = unknown s h
+
+headingHas : (heading : ℕ) (ss : List Signal) (s : Signal) → among heading ss ≡ Known s → headingOf s ≡ heading
+headingHas heading [] s h = failingHas heading (failureOf heading) s refl h .0
+headingHas heading (t ∷ ss) s h = go (eqb heading (headingOf t)) refl (headingHas heading ss s) h
+  where
+    go : (x : Bool) → eqb heading (headingOf t) ≡ x → (among heading ss ≡ Known s → headingOf s ≡ heading) → cond x (Known t) (among heading ss) ≡ Known s → headingOf s ≡ heading
+    go true e rest k = let q : t ≡ s = ap (signal t) k in ap headingOf (sym q) ∙ sym (eqb-true heading (headingOf t) e)
+    go false e rest k = rest k
 
 -- all signals of a list have an octet of 0
 data Bare : List Signal → Type 0 where
   none : Bare []
   one : {s : Signal} {ss : List Signal} → octetOf s ≡ 0 → Bare ss → Bare (s ∷ ss)
 
-signalHas : (heading : ℕ) (ss : List Signal) → Bare ss → (s : Signal) → among heading ss ≡ Known s → Has heading s × (octetOf s ≡ 0)
-signalHas heading [] b s h = failingHas heading (failureOf heading) s refl h
-signalHas heading (t ∷ ss) (one z b) s h = go (eqb heading (headingOf t)) refl (signalHas heading ss b s) h
+octetHas : (heading : ℕ) (ss : List Signal) → Bare ss → (s : Signal) → among heading ss ≡ Known s → octetOf s ≡ 0
+octetHas heading [] b s h = failingHas heading (failureOf heading) s refl h .1
+octetHas heading (t ∷ ss) (one z b) s h = go (eqb heading (headingOf t)) (octetHas heading ss b s) h
   where
-    go : (x : Bool) → eqb heading (headingOf t) ≡ x → (among heading ss ≡ Known s → Has heading s × (octetOf s ≡ 0)) → cond x (Known t) (among heading ss) ≡ Known s → Has heading s × (octetOf s ≡ 0)
-    go true e rest k =
-        let q : t ≡ s = ap (signal t) k in
-        (ap headingOf (sym q) ∙ sym (eqb-true heading (headingOf t) e), ap octetOf (sym q) ∙ z)
-    go false e rest k = rest k
+    go : (x : Bool) → (among heading ss ≡ Known s → octetOf s ≡ 0) → cond x (Known t) (among heading ss) ≡ Known s → octetOf s ≡ 0
+    go true rest k = let q : t ≡ s = ap (signal t) k in ap octetOf (sym q) ∙ z
+    go false rest k = rest k
 
 plain : Bare (Iam ∷ Acm 0 ∷ Anc ∷ Ann ∷ Cbk ∷ Clf ∷ Ran ∷ Rlg ∷ Blo ∷ Bla ∷ Ubl ∷ Uba ∷ Rsc ∷ [])
 plain = one refl (one refl (one refl (one refl (one refl (one refl (one refl (one refl (one refl (one refl (one refl (one refl (one refl none))))))))))))
+
+-- a heading that is read as a signal, or as a failure, is its own
+pub headingIs : (heading octet : ℕ) (s : Signal) → signalOf heading octet ≡ Known s → headingOf s ≡ heading
+headingIs heading octet s h = headingHas heading (Iam ∷ Acm octet ∷ Anc ∷ Ann ∷ Cbk ∷ Clf ∷ Ran ∷ Rlg ∷ Blo ∷ Bla ∷ Ubl ∷ Uba ∷ Rsc ∷ []) s h
+
+pub failureIs : (heading : ℕ) (f : Failure) → failureOf heading ≡ IsFailure f → failureHeading f ≡ heading
+failureIs heading f h = failureHas heading (Sec ∷ Cgc ∷ Nnc ∷ Adi ∷ Cfl ∷ Ssb ∷ Unn ∷ Los ∷ Sst ∷ []) f h
+
+-- and each is read back from its heading
+pub failureNamed : (f : Failure) → failureOf (failureHeading f) ≡ IsFailure f
+failureNamed Sec = refl
+failureNamed Cgc = refl
+failureNamed Nnc = refl
+failureNamed Adi = refl
+failureNamed Cfl = refl
+failureNamed Ssb = refl
+failureNamed Unn = refl
+failureNamed Los = refl
+failureNamed Sst = refl
+
+pub signalNamed : (s : Signal) → signalOf (headingOf s) (octetOf s) ≡ Known s
+signalNamed Iam = refl
+signalNamed (Acm octet) = refl
+signalNamed Anc = refl
+signalNamed Ann = refl
+signalNamed Cbk = refl
+signalNamed Clf = refl
+signalNamed Ran = refl
+signalNamed Rlg = refl
+signalNamed Blo = refl
+signalNamed Bla = refl
+signalNamed Ubl = refl
+signalNamed Uba = refl
+signalNamed Rsc = refl
+signalNamed (Fail Sec) = refl
+signalNamed (Fail Cgc) = refl
+signalNamed (Fail Nnc) = refl
+signalNamed (Fail Adi) = refl
+signalNamed (Fail Cfl) = refl
+signalNamed (Fail Ssb) = refl
+signalNamed (Fail Unn) = refl
+signalNamed (Fail Los) = refl
+signalNamed (Fail Sst) = refl
 
 -- a signal that arrives by a name
 arrived : (n : Named) (e : Event) → arrives n ≡ Is e → (P : Event → Type 0) → ((s : Signal) → n ≡ Known s → P (Arrives s)) → P e
@@ -206,8 +252,8 @@ ofSignals code detail e h = go (leb detail 255) (eqb code 0x14) refl (eqb detail
     bareOne z k =
         let q : arrives (signalOf code 0) ≡ Is e = subst (λ (n : ℕ). arrives (signalOf code n) ≡ Is e) z k in
         arrived (signalOf code 0) e q (λ d. Numbered 1 code detail d) (λ s known.
-        let w = signalHas code (Iam ∷ Acm 0 ∷ Anc ∷ Ann ∷ Cbk ∷ Clf ∷ Ran ∷ Rlg ∷ Blo ∷ Bla ∷ Ubl ∷ Uba ∷ Rsc ∷ []) plain s known in
-        ap (λ (n : ℕ). (1, n, octetOf s)) (w .0) ∙ ap (λ (n : ℕ). (1, code, n)) (w .1 ∙ sym z))
+        ap (λ (n : ℕ). (1, n, octetOf s)) (headingIs code 0 s known)
+        ∙ ap (λ (n : ℕ). (1, code, n)) (octetHas code (Iam ∷ Acm 0 ∷ Anc ∷ Ann ∷ Cbk ∷ Clf ∷ Ran ∷ Rlg ∷ Blo ∷ Bla ∷ Ubl ∷ Uba ∷ Rsc ∷ []) plain s known ∙ sym z))
 
     go : (low a : Bool) → eqb code 0x14 ≡ a → (z : Bool) → eqb detail 0 ≡ z → cond (low && (a || z)) (arrives (signalOf code detail)) Missing ≡ Is e → Numbered 1 code detail e
     go true true p z q k = acm (eqb-true code 0x14 p) k
@@ -237,7 +283,7 @@ ofAnswer detail e h =
 
 ofFailure : (detail : ℕ) (n : NamedFailure) (e : Event) → failureOf detail ≡ n → failWith n ≡ Is e → Numbered 2 7 detail e
 ofFailure detail (IsFailure f) e n h =
-    detailed 7 detail (failureHeading f) (Ordered (FailCall f)) e refl (sym (failureHas detail (Sec ∷ Cgc ∷ Nnc ∷ Adi ∷ Cfl ∷ Ssb ∷ Unn ∷ Los ∷ Sst ∷ []) f n)) h
+    detailed 7 detail (failureHeading f) (Ordered (FailCall f)) e refl (sym (failureIs detail f n)) h
 ofFailure detail NoFailure e n h = found e h
 
 -- the code of a command or a timer is the one that was asked for

@@ -68,7 +68,7 @@ fn free(table: &mut [u8], cic: Cic, o: Outcome) -> Answer
     ensures leaves { λ r. ⌜ now (table .exit) ≡ freeing (now (table .entry)) (cic .0) o .table ⌝ }
 {
     let count = layout::counter_in(table);
-    if 0xffffffffffffffff <= count {
+    if words::LARGEST <= count {
         return refused_at(13, table, cic);
     }
     let after = o.after;

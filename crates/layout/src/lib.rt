@@ -32,7 +32,7 @@ pub fn table_octets(circuits: u32) -> usize
     COUNTER_OCTETS + RECORD_OCTETS * (circuits as usize)
 }
 
-// The records in so many octets: none where they are no counter and whole number of records.
+// How many records a table of this length holds; 0 if it is not a counter and whole records.
 pub fn records(octets: usize) -> usize
     ensures { λ r. ⌜ r ≡ recordsIn octets ⌝ }
 {

@@ -7,7 +7,7 @@ ghost use mathlib.Core.Bool.{not};
 ghost use Prim.Native.Nat.{_%_, _<_, _≤_};
 ghost use lib.ListN.{length};
 ghost use Rattle.layout.specs.Layout.{recordsIn};
-ghost use Rattle.circuit.specs.Groups.{lowest, byParity};
+ghost use Rattle.circuit.specs.Groups.{byParity};
 ghost use Rattle.select.specs.First.{some};
 ghost use Rattle.select.specs.Selection.{refused, taken, free, selectIn};
 ghost use Rattle.select.specs.Way.{badFrom, concluded, searched, Led, sought};
@@ -45,13 +45,6 @@ fn free(at: Stored) -> bool
 {
     let rec = layout::record_of(at.state, at.flags);
     circuit::both(at.state == 0, !rec.far)
-}
-
-// The lowest circuit that we control: 0 or 1.
-fn lowest_of_ours(own: PointCode, far: PointCode) -> u32
-    ensures { λ r. ⌜ r ≡ lowest (own .0) (far .0) ⌝ }
-{
-    if far.0 < own.0 { 0 } else { 1 }
 }
 
 // Whether all records from one on are allowed.
@@ -147,5 +140,5 @@ pub fn select(own: PointCode, far: PointCode, table: &[u8]) -> Selected
     if circuit::bad_group(own, far, records) {
         return refused(1);
     }
-    search(lowest_of_ours(own, far), table, records as u32)
+    search(circuit::lowest(own, far), table, records as u32)
 }

@@ -37,7 +37,7 @@ fn missing(con: bool, rec: Record) -> Outcome
     }
 }
 
-// The same for an event that was given by numbers: none is refused 3, after 12.
+// As `step`, for an event given by numbers; numbers that name no event are refused 3, after 12.
 pub fn step_found(con: bool, rec: Record, f: Found) -> Outcome
     ensures { λ r. ⌜ r ≡ stepFound con rec f ⌝ }
 {

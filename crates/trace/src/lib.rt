@@ -19,7 +19,7 @@ ghost use Rattle.trace.specs.Feed.{shareOf, shareAt, stageAt, answerOf, 
 ghost use Rattle.trace.specs.Way.{noTurn, turnOf, started, Goes, ended, Ran};
 
 // The largest ordinal; an event that has it is not taken, since none could follow.
-const LAST: u64 = 0xffffffffffffffff;
+const LAST: u64 = words::LARGEST;
 
 // A replay behind its group: the two codes, how many circuits there are, and the next event's ordinal.
 pub struct Running {

@@ -1,8 +1,11 @@
-// Octets and words of eight octets, lowest first, in a lent slice: beyond its end there are zeros, which stay.
+// Octets and words of eight octets, lowest first, in a lent slice. Reads past the end give 0; writes past the end are ignored.
 ghost use mathlib.Core.Path.{_≡_};
 ghost use Prim.Native.Nat.{_+_, _*_, _%_, _<_};
 ghost use lib.ListN.{length, getD, set};
 ghost use Rattle.words.specs.Words.{word, put, putWord};
+
+// The largest number that a word can hold.
+pub const LARGEST: u64 = 0xffffffffffffffff;
 
 // The octet k behind a place.
 pub fn octet(xs: &[u8], at: usize, k: usize) -> u8
