@@ -6,9 +6,9 @@ use mathlib.Core.Path.{_≡_, refl, subst₂, sym}
 use Prim.Native.Nat.{ℕ}
 use lib.Dec.{T, eqb, eqb→eq}
 use borrow.Author.Tests.{ne-eqb}
+use Rattle.circuit.specs.declared.Signal.the-variants.{Rlg}
 use Rattle.circuit.proofs.Every.{left, right}
 use Rattle.ends.specs.Ends.{sameStage, awaits, marks, unheard}
-use Rattle.circuit.specs.declared.Signal.the-variants.{Rlg}
 
 byCases : {X : Type 0} (a b : Bool) → (T a → X) → (T b → X) → T (a || b) → X
 byCases true b f g t = f tt

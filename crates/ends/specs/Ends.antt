@@ -1,7 +1,7 @@
 -- Two ends of one circuit: what is claimed of them (document 01, demand 3). What can happen to the pair is `Machine`, of ends that hold a record.
--- How it is proved: all that two ends and their queues can be is told by 119 rooms, found by following every event; one computed test shows that no
--- event leads out of them, and that the ends agree in each of them. `proofs/Lib.antt` leads through: Words and Rooms say what a room is,
--- Sound that rooms speak for queues of any length, Explored finds and tests them, Marks has the blocks, Claim and Heard the two theorems.
+-- How it is proved: whatever the queues, the two ends together stand in one of some 150 rooms, which the prover finds by following every event from
+-- two idle ends. One computed test shows that no event leads out of them and that the ends agree in each; blocks are followed beside that.
+-- `proofs/Lib.antt` leads through the files: `Rooms` says what a room is, `Explored` finds and tests them, `Claim` and `Heard` have the theorems.
 -- Assumes nothing.
 use mathlib.Core.Bool.{Bool, true, false, not, _&&_, _||_}
 use mathlib.Core.List.{List, [], _∷_}
