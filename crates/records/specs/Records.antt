@@ -43,7 +43,7 @@ item s =
     (cond (ltb (length s) (octetsOf (octet s 0))) Short
     (Event (recorded s))))
 
--- the octets of an item that is taken: an event's record has those of its kind, and nothing else is taken
+-- how many octets are taken, for each case of an `Item`: those of an event's record, by its kind, and none of anything else
 unfoldable pub takenOf : Item → ℕ
 takenOf (Event e) = octetsOf (e .kind)
 takenOf NoEvent = 0

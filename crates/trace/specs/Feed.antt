@@ -52,7 +52,7 @@ shareAt i r table room = cond (mayGo r room) (shareOf i r table) (noShare table)
 abbrev pub share : Running → List ℕ → List ℕ → ℕ → Share
 share r table s room = shareAt (item s) r table room
 
--- where a run stops: cut before what is no event, else it waits for more
+-- where a run stops, for each case of an `Item` before which it does: cut before what is no event, else it waits for more
 abbrev pub stageAt : Item → Running → Stage
 stageAt (Event e) r = Runs r
 stageAt NoEvent r = Cut (r .next)
@@ -111,7 +111,8 @@ tableOctets Bad = 0
 tableOctets (Runs r) = grouped.tableOctets (min (r .circuits) 4096)
 tableOctets (Cut next) = 0
 
--- the last line, where `rest` is what was not taken of the whole trace
+-- the last line that document 01 prints for each case of a `Stage`, where `rest` is what was not taken of the whole trace: "bad group" where no good group
+-- came; among the events "end" and their number if nothing is left, else "cut" and the next event's ordinal; "cut" and that ordinal where the trace was cut
 unfoldable pub lastLine : Stage → List ℕ → List ℕ
 lastLine Start rest = badGroupLine
 lastLine Bad rest = badGroupLine

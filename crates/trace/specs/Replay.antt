@@ -41,7 +41,8 @@ eventText r table e = line (lineOf (r .next) (e .circuit) (happens r table e .an
 abbrev pub onward : Running → Running
 onward r = record { own = r .own; far = r .far; circuits = r .circuits; next = r .next + 1 }
 
--- an event's text is given; otherwise comes the last line: "end" and the number of events, or "cut" and the next event's ordinal
+-- what document 01 prints for each case of an `Item`, where `next` is the next event's ordinal: for an event its line and all that follows, as `text`
+-- gives it; for an octet that starts no event, and for a record cut short, "cut" and that ordinal; where nothing more stands, "end" and the number of events
 unfoldable pub textAt : Item → (Recorded → List ℕ) → ℕ → List ℕ
 textAt (Event e) text next = text e
 textAt NoEvent text next = cutLine next
