@@ -1,14 +1,21 @@
 -- Any two answers that a contract allows are equal, and so are any two contents of what is lent to be written (document 01, "How tight the
 -- contracts are"). This is said of the contracts themselves: `f.Learnt κs a x s` is what the contract of the function f says of its answer x and of
--- its arguments at exit s, where a was passed (κs: the lifetimes of what is lent). One statement a crate.
+-- its arguments at exit s, where a was passed (κs: the lifetimes of what is lent). One statement a crate, and then what the entries for C say.
 -- Assumes nothing.
 use mathlib.Core.Path.{_≡_, sym, _∙_}
 use mathlib.Core.List.{List}
-use Prim.Native.Nat.{ℕ}
+use Prim.Native.Nat.{ℕ, _/_, _%_}
 use denote.Ref.{now}
+use Rattle.codes.specs.Numbers as Numbers
+use Rattle.codes.specs.Headings as Headings
+use Rattle.group.specs.Table.{stepIn}
+use Rattle.select.specs.Selection.{selectIn}
+use Rattle.writer.specs.Writing.{said}
+use Rattle.link.specs.Entries as Entries
 use Rattle.circuit.proofs.both.Reads as both
 use Rattle.circuit.proofs.either.Reads as either
 use Rattle.circuit.proofs.bad_group.Reads as badGroup
+use Rattle.circuit.proofs.lowest.Reads as lowest
 use Rattle.circuit.proofs.controls.Reads as controls
 use Rattle.circuit.proofs.valid.Reads as valid
 use Rattle.codes.proofs.heading.Reads as heading
@@ -64,6 +71,16 @@ use Rattle.text.proofs.group_line.Reads as groupLine
 use Rattle.text.proofs.end_line.Reads as endLine
 use Rattle.text.proofs.cut_line.Reads as cutLine
 use Rattle.text.proofs.bad_group_line.Reads as badGroupLine
+use Rattle.records.proofs.octets_of.Reads as octetsOf
+use Rattle.records.proofs.item_at.Reads as itemAt
+use Rattle.records.proofs.refused_start.Reads as refusedStart
+use Rattle.records.proofs.group_in.Reads as groupIn
+use Rattle.records.proofs.behind_at.Reads as behindAt
+use Rattle.trace.proofs.feed.Reads as feed
+use Rattle.trace.proofs.finish.Reads as finish
+use Rattle.trace.proofs.is_over.Reads as isOver
+use Rattle.trace.proofs.table_octets.Reads as traceTableOctets
+use Rattle.trace.proofs.keep.Reads as keep
 
 -- the answer is determined
 abbrev pub Once : {K : Type 0} {A X E : K → Type 0} → ((κs : K) → A κs → X κs → E κs → Type 0) → Type 0
@@ -81,9 +98,11 @@ pub ofCircuit :
     Once both.Learnt
     × Once either.Learnt
     × Once badGroup.Learnt
+    × Once lowest.Learnt
     × Once controls.Learnt
     × Once valid.Learnt
 ofCircuit = (
+  λ κs a x y s t. once,
   λ κs a x y s t. once,
   λ κs a x y s t. once,
   λ κs a x y s t. once,
@@ -258,3 +277,63 @@ ofText = (
   λ κs a x y s t h k. once (h .count) (k .count),
   λ κs a x y s t h k. once (h .room) (k .room),
 )
+
+-- the functions over a slice and a number; those over the reader that holds both are proved by hand, and docs/DECISIONS.md (D141) speaks of them
+pub ofRecords : Once octetsOf.Learnt × Once itemAt.Learnt × Once refusedStart.Learnt × Once groupIn.Learnt × Once behindAt.Learnt
+ofRecords = (λ κs a x y s t. once, λ κs a x y s t. once, λ κs a x y s t. once, λ κs a x y s t. once, λ κs a x y s t. once)
+
+-- the table and the room of a part, the room of the last line, the buffer
+pub ofTrace :
+    Once feed.Learnt
+    × Leaves (λ κs s. now (s .1 .0)) feed.Learnt
+    × Leaves (λ κs s. now (s .1 .1 .1 .0)) feed.Learnt
+    × Once finish.Learnt
+    × Leaves (λ κs s. now (s .1 .1 .0)) finish.Learnt
+    × Once isOver.Learnt
+    × Once traceTableOctets.Learnt
+    × Once keep.Learnt
+    × Leaves (λ κs s. now (s .0)) keep.Learnt
+ofTrace = (
+  λ κs a x y s t h k. once (h .0) (k .0),
+  λ κs a x y s t h k. once (h .1 .0) (k .1 .0),
+  λ κs a x y s t h k. once (h .1 .1 .0) (k .1 .1 .0),
+  λ κs a x y s t h k. once (h .0 .count) (k .0 .count),
+  λ κs a x y s t h k. once (h .0 .room) (k .0 .room),
+  λ κs a x y s t. once,
+  λ κs a x y s t h k. once (h .0) (k .0),
+  λ κs a x y s t h k. once (h .0) (k .0),
+  λ κs a x y s t h k. once (h .1 .0) (k .1 .0),
+)
+
+-- THE ENTRIES FOR C
+
+-- what a contract says
+abbrev pub Says : {K : Type 0} {A X E : K → Type 0} → (C P : (κs : K) → A κs → X κs → E κs → Type 0) → Type 0
+Says {K} {A} {X} {E} C P = (κs : K) (a : A κs) (x : X κs) (s : E κs) → C κs a x s → P κs a x s
+
+-- `tup_step(own, far, table, cic, kind, code, detail)`: the answer of the event on the table, whose fields come back from the number, octet by
+-- octet, and what the table holds then
+pub stepSays : Says tupStep.Learnt (λ κs a x s.
+    let step = stepIn (a .0) (a .1 .0) (now (a .1 .1 .0)) (a .1 .1 .1 .0) (Numbers.eventOf (a .1 .1 .1 .1 .0) (a .1 .1 .1 .1 .1 .0) (a .1 .1 .1 .1 .1 .1 .0)) in
+    (x % 256 ≡ step .answer .refusal) × (x / 0x100 % 256 ≡ step .answer .ind) × (x / 0x10000 % 256 ≡ step .answer .state) × (x / 0x1000000 % 256 ≡ step .answer .flags)
+    × (x / 0x100000000 % 256 ≡ Headings.firstHeading (step .answer .sends)) × (x / 0x10000000000 % 256 ≡ Headings.secondHeading (step .answer .sends))
+    × (now (s .1 .1 .0) ≡ step .table))
+stepSays κs a x s h = let u = h .1 .0 in (u .refusal, u .ind, u .state, u .flags, u .first, u .second, h .1 .1)
+
+-- `tup_select(own, far, table)`: refusal, circuit and count, 16 bits each
+pub selectSays : Says tupSelect.Learnt (λ κs a x s.
+    let chosen = selectIn (a .0) (a .1 .0) (now (a .1 .1 .0)) in
+    (x % 0x10000 ≡ chosen .refusal) × (x / 0x10000 % 0x10000 ≡ chosen .cic .0) × (x / 0x100000000 ≡ chosen .looked))
+selectSays κs a x s h = (h .1 .refusal, h .1 .cic, h .1 .looked)
+
+-- `tup_read(own, far, count, octets, out)` and `tup_write(own, far, count, cic, heading, acm, category, indicators, address, out)`: what
+-- `Demand1` says of `readInto` and `writeFrom` is said of these
+pub readSays : Says tupRead.Learnt (λ κs a x s.
+    let told = Entries.readInto (a .0) (a .1 .0) (a .1 .1 .0) (now (a .1 .1 .1 .0)) (now (a .1 .1 .1 .1 .0)) in (x ≡ told .answer) × (now (s .1 .1 .1 .1 .0) ≡ told .buffer))
+readSays κs a x s h = h
+
+pub writeSays : Says tupWrite.Learnt (λ κs a x s.
+    let m = said (a .1 .1 .1 .0) (a .1 .1 .1 .1 .0) (a .1 .1 .1 .1 .1 .0) (a .1 .1 .1 .1 .1 .1 .0) (a .1 .1 .1 .1 .1 .1 .1 .0) (now (a .1 .1 .1 .1 .1 .1 .1 .1 .0)) in
+    let told = Entries.writeFrom (a .0) (a .1 .0) (a .1 .1 .0) m (now (a .1 .1 .1 .1 .1 .1 .1 .1 .1 .0)) in
+    (x ≡ told .answer) × (now (s .1 .1 .1 .1 .1 .1 .1 .1 .1 .0) ≡ told .buffer))
+writeSays κs a x s h = h

@@ -71,9 +71,10 @@ eventRefused = group.refusals
 -- each number is given exactly when its rule holds and none before it does
 pub eventGiven : (own far : ℕ) (table : List ℕ) (cic : ℕ) (event : Found) (n : ℕ)
     → (stepIn own far table cic event .answer .refusal ≡ suc n) ↔ Given (suc n) (eventRules own far table cic event)
-eventGiven own far table cic event n =
-    (λ e. exactly (eventRules own far table cic event) n .0 (sym (eventRefused own far table cic event) ∙ e),
-    λ g. eventRefused own far table cic event ∙ exactly (eventRules own far table cic event) n .1 g)
+eventGiven own far table cic event n = (
+  λ e. exactly (eventRules own far table cic event) n .0 (sym (eventRefused own far table cic event) ∙ e),
+  λ g. eventRefused own far table cic event ∙ exactly (eventRules own far table cic event) n .1 g,
+)
 
 -- an event's own: 3 for numbers that name none; of a signal none; of a command 4 and 5; of a timer 6
 pub noEvent3 : (r : Record) → foundRules r Missing ≡ refuse 3 true ∷ []
@@ -167,9 +168,10 @@ readRefused = intoRefusal
 
 pub readGiven : (own far count : ℕ) (xs buffer : List ℕ) (n : ℕ)
     → (readInto own far count xs buffer .answer ≡ suc n) ↔ Given (suc n) (readerRules own far count xs (length buffer))
-readGiven own far count xs buffer n =
-    (λ e. exactly (readerRules own far count xs (length buffer)) n .0 (sym (readRefused own far count xs buffer) ∙ e),
-    λ g. readRefused own far count xs buffer ∙ exactly (readerRules own far count xs (length buffer)) n .1 g)
+readGiven own far count xs buffer n = (
+  λ e. exactly (readerRules own far count xs (length buffer)) n .0 (sym (readRefused own far count xs buffer) ∙ e),
+  λ g. readRefused own far count xs buffer ∙ exactly (readerRules own far count xs (length buffer)) n .1 g,
+)
 
 -- "Writer: 1, 2, 9, 3, 10, 11."
 abbrev writerRules : (own far count : ℕ) → Said → (room : ℕ) → List Rule
@@ -187,9 +189,10 @@ writeRefused = fromRefusal
 
 pub writeGiven : (own far count : ℕ) (m : Said) (buffer : List ℕ) (n : ℕ)
     → (writeFrom own far count m buffer .answer % 256 ≡ suc n) ↔ Given (suc n) (writerRules own far count m (length buffer))
-writeGiven own far count m buffer n =
-    (λ e. exactly (writerRules own far count m (length buffer)) n .0 (sym (writeRefused own far count m buffer) ∙ e),
-    λ g. writeRefused own far count m buffer ∙ exactly (writerRules own far count m (length buffer)) n .1 g)
+writeGiven own far count m buffer n = (
+  λ e. exactly (writerRules own far count m (length buffer)) n .0 (sym (writeRefused own far count m buffer) ∙ e),
+  λ g. writeRefused own far count m buffer ∙ exactly (writerRules own far count m (length buffer)) n .1 g,
+)
 
 -- a refusal leaves the buffer as it was
 pub readKeeps : (own far count : ℕ) (xs buffer : List ℕ) → (readInto own far count xs buffer .answer ≡ 0 → ⊥) → readInto own far count xs buffer .buffer ≡ buffer

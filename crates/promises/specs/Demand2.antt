@@ -2,12 +2,12 @@
 -- The tables are definitions: `signals/specs/Table`, `commands/specs/Tables`, and the order of refusals before them `step/specs/Step`. The contracts
 -- of the program say that it answers by them (`Contracts`). Here stands what follows from the definitions, in document 01's words and order.
 -- Assumes nothing.
-use mathlib.Core.Path.{_≡_, refl}
+use mathlib.Core.Path.{_≡_, refl, ap}
 use mathlib.Core.Bool.{Bool, true, false, not, cond, _&&_}
 use mathlib.Core.List.{List, [], _∷_, _++_, map}
-use Prim.Native.Nat.{ℕ, _+_, _<_, _≤_}
+use Prim.Native.Nat.{ℕ, _+_, _-_, _<_, _≤_}
 use lib.Dec.{T, eqb, leb}
-use lib.ListN.{length, getD, take}
+use lib.ListN.{length, getD, take, replicate}
 use Rattle.circuit.specs.declared.Record.{Record}
 use Rattle.circuit.specs.declared.Failure.{Failure}
 use Rattle.circuit.specs.declared.Failure.the-variants.{Sec, Cgc, Nnc, Adi, Cfl, Ssb, Unn, Los, Sst}
@@ -23,21 +23,39 @@ use Rattle.circuit.specs.Groups.{badGroup, controls}
 use Rattle.circuit.specs.Rows.{first, answered, refused}
 use Rattle.circuit.proofs.Groups.{oneControls}
 use Rattle.codes.specs.declared.Found.{Found}
+use Rattle.codes.specs.declared.Named.the-variants.{Known, Unknown}
+use Rattle.codes.specs.declared.NamedFailure.the-variants.{IsFailure, NoFailure}
+use Rattle.codes.specs.Headings.{failureHeading, headingOf, octetOf, failureOf, signalOf, named, namedFailure}
+use Rattle.codes.proofs.Back.{headingIs, failureIs, failureNamed, signalNamed}
 use Rattle.words.specs.Octets.{over}
 use Rattle.step.specs.Step.{step, stepFound, isSignal, sent}
 use Rattle.step.proofs.Always.{kept, oneSent}
 use Rattle.step.proofs.Erred.{freedOnlyByRlg, exactlyOneYields, crossingIsSilent, restartForgets}
 use Rattle.step.specs.Frees.{frees}
-use Rattle.layout.specs.Layout.{recordsIn, stateAt, flagsAt, rankAt, recordOf, recordAt}
-use Rattle.group.specs.Table.{stepIn}
+use Rattle.layout.specs.Layout.{recordsIn, counterIn, stateAt, flagsAt, rankAt, flagsOf, recordOf, recordAt, put, ranked}
+use Rattle.layout.proofs.Laws.{flagsBack, recordBack}
+use Rattle.group.specs.Table.{taken, stepIn}
 use Rattle.group.proofs.Laws as group
 use Rattle.reader.specs.Reading.{fieldsOf}
 use Rattle.writer.specs.Writing.{Said, said, tooLarge, badAddress, octetsOf, writing}
 use Rattle.inverse.specs.Octets.{Octets, cleared}
 use Rattle.inverse.specs.Said.{fieldsSaid, saidOf, lengthOf}
 use Rattle.inverse.proofs.Laws as messages
-use Rattle.inverse.specs.Cases.{from3, writtenCases, arrivedCases, orderedCases}
+use Rattle.inverse.specs.Cases.{Written, Arrived, Ordered as ToWrite, writtenCases, arrivedCases, orderedCases}
 use Rattle.inverse.proofs.Cases.{writtenHold, arrivedHold, orderedHold}
+use Rattle.text.specs.Numbers.{decimal, valueFrom}
+use Rattle.text.specs.Lines.{endLine, cutLine, badGroupLine}
+use Rattle.text.proofs.Numbers.{decimalValue, decimalFirst}
+use Rattle.records.specs.declared.Recorded.{Recorded}
+use Rattle.records.specs.declared.Item.the-variants.{Event as anEvent, NoEvent, Short, End}
+use Rattle.trace.specs.declared.Running.{Running}
+use Rattle.trace.specs.declared.Stage.the-variants.{Start, Bad, Runs, Cut}
+use Rattle.trace.specs.Replay.{textAt, replay}
+use Rattle.trace.specs.Feed.{fed, isOver, lastLine}
+use Rattle.trace.specs.Parts.{Move, Standing, before, after, whole-text, hasNext}
+use Rattle.trace.specs.Cases.{wholeCase, wholeText}
+use Rattle.trace.proofs.Cases.{theWholeCase}
+use Rattle.trace.proofs.Parts.{inParts, finished, overEarly}
 
 -- THE CASES P1 TO P10
 
@@ -95,6 +113,38 @@ pub all : map (λ (k : Case). k .number) cases
     ≡ 1 ∷ 2 ∷ 3 ∷ 3 ∷ 4 ∷ 4 ∷ 5 ∷ 5 ∷ 6 ∷ 6 ∷ 7 ∷ 7 ∷ 7 ∷ 7 ∷ 7 ∷ 7 ∷ 7 ∷ 7 ∷ 7 ∷ 7 ∷ 7 ∷ 7 ∷ 7 ∷ 7 ∷ 7 ∷ 7 ∷ 7 ∷ 7 ∷ 8 ∷ 8 ∷ 8 ∷ 8 ∷ 9 ∷ 9 ∷ 10 ∷ []
 all = refl
 
+-- NAMES AND NUMBERS
+
+-- a signal is read from its heading, and a heading that is read as a signal is its own; the same of failures. Of what is read as none, `named` and
+-- `namedFailure` are 0, which no signal has.
+pub headingOfEach : (s : Signal) → named (signalOf (headingOf s) (octetOf s)) ≡ headingOf s
+headingOfEach s = ap named (signalNamed s)
+
+pub signalOfEach : (s : Signal) → signalOf (headingOf s) (octetOf s) ≡ Known s
+signalOfEach = signalNamed
+
+pub noOtherHeading : (heading octet : ℕ) (s : Signal) → signalOf heading octet ≡ Known s → headingOf s ≡ heading
+noOtherHeading = headingIs
+
+pub unknownHeading : named Unknown ≡ 0
+unknownHeading = refl
+
+pub failureOfEach : (f : Failure) → failureOf (failureHeading f) ≡ IsFailure f
+failureOfEach = failureNamed
+
+pub noOtherFailure : (heading : ℕ) (f : Failure) → failureOf heading ≡ IsFailure f → failureHeading f ≡ heading
+noOtherFailure = failureIs
+
+pub unknownFailure : namedFailure NoFailure ≡ 0
+unknownFailure = refl
+
+-- an octet of flags and the flags correspond: 1 own block, 2 far block, 4 awaiting BLA, 8 awaiting UBA
+pub flagsCorrespond : (s f : ℕ) → f ≤ 15 → flagsOf (recordOf s f) ≡ f
+flagsCorrespond = flagsBack
+
+pub recordsCorrespond : (r : Record) → recordOf (r .state) (flagsOf r) ≡ r
+recordsCorrespond = recordBack
+
 -- EVERY EVENT
 
 -- every event takes a record that is allowed to one that is
@@ -120,6 +170,15 @@ pub isOneCircuitsStep : (own far : ℕ) (table : List ℕ) (cic : ℕ) (event : 
     × (s .answer .sends ≡ o .sends) × (s .answer .ind ≡ o .ind)
 isOneCircuitsStep own far table cic event good has low not13 =
     let k = group.isStep own far table cic event good has low not13 in (k .refusal, k .shown, k .stored, k .sends, k .ind)
+
+-- an event that is accepted is taken as that step says, and where it frees the circuit the counter goes up by one and the record takes it
+pub isTaken : (own far : ℕ) (table : List ℕ) (cic : ℕ) (event : Found) → stepIn own far table cic event .answer .refusal ≡ 0
+    → let o = stepFound (controls own far cic) (recordAt table cic) event in
+    stepIn own far table cic event
+    ≡ cond (not (eqb (stateAt table cic) 0) && eqb (o .after .state) 0)
+    (record { answer = taken o; table = ranked (put table cic (o .after)) cic (counterIn table + 1) })
+    (record { answer = taken o; table = put table cic (o .after) })
+isTaken = group.took
 
 -- and no other record changes, nor the table's length
 pub othersStay : (own far : ℕ) (table : List ℕ) (cic : ℕ) (event : Found) (i : ℕ) → (i ≡ cic → ⊥)
@@ -175,3 +234,61 @@ differentOctets = messages.different
 pub lengthsFit : (own far records : ℕ) (m : Said) (buffer : List ℕ) → writing own far records m buffer .answer .refusal ≡ 0
     → writing own far records m buffer .answer .length ≡ lengthOf m
 lengthsFit = messages.lengthFits
+
+-- messages of the exchange 2 to the exchange 1, and their octets; octets that arrive there, and messages to be written, with their refusals
+pub messagesWritten : map (λ (c : Written). octetsOf 2 1 (c .says)) writtenCases
+    ≡ (0x01 ∷ 0x80 ∷ 0x00 ∷ 0x30 ∷ 0x00 ∷ 0x46 ∷ []) ∷ (0x01 ∷ 0x80 ∷ 0x00 ∷ 0x30 ∷ 0x00 ∷ 0x14 ∷ 0x05 ∷ [])
+    ∷ (0x01 ∷ 0x80 ∷ 0x00 ∷ 0x30 ∷ 0x00 ∷ 0x11 ∷ 0x0a ∷ 0x03 ∷ 0x30 ∷ 0x21 ∷ 0x0f ∷ []) ∷ []
+unfolding writtenCases
+messagesWritten = writtenHold
+
+pub messagesRead : map (λ (c : Arrived). fieldsOf 1 2 (c .records) (c .octets) .refusal) arrivedCases ≡ 0 ∷ 2 ∷ 7 ∷ 7 ∷ 8 ∷ 9 ∷ 7 ∷ 0 ∷ 7 ∷ 10 ∷ 10 ∷ 7 ∷ 10 ∷ 0 ∷ 10 ∷ 0 ∷ []
+unfolding arrivedCases
+messagesRead = arrivedHold
+
+pub messagesRefused : map (λ (c : ToWrite). writing 2 1 1 (c .says) (replicate (c .room) 0) .answer .refusal) orderedCases ≡ 0 ∷ 2 ∷ 2 ∷ 9 ∷ 3 ∷ 3 ∷ 3 ∷ 3 ∷ 3 ∷ 10 ∷ 10 ∷ 10 ∷ 0 ∷ 11 ∷ []
+unfolding orderedCases
+messagesRefused = orderedHold
+
+-- THE TRACE AND ITS REPLAY
+
+-- the whole case, octet by octet
+pub wholeCasePrints : replay wholeCase ≡ wholeText
+wholeCasePrints = theWholeCase
+
+-- A trace may be read and fed in parts of any sizes, into rooms of any sizes: after every schedule, what is printed and what is still to come is
+-- the text of the whole trace.
+pub partsPrintTheWhole : (trace : List ℕ) (ms : List Move) → whole-text (after (before trace) ms) ≡ replay trace
+partsPrintTheWhole = inParts
+
+-- where all was read and nothing more can be taken, the last line ends the text
+pub lastLineEnds : (trace : List ℕ) (ms : List Move) (n : ℕ) → 132 ≤ n → (z : Standing) → z ≡ after (before trace) ms
+    → z .unread ≡ [] → hasNext (z .stage) ≡ true → fed (z .stage) (z .table) (z .read) n .taken ≡ 0
+    → z .printed ++ lastLine (fed (z .stage) (z .table) (z .read) n .stage) (z .read) ≡ replay trace
+lastLineEnds = finished
+
+-- and where the trace is cut or has no good group, no more needs to be read
+pub lastLineEarly : (trace : List ℕ) (ms : List Move) (z : Standing) → z ≡ after (before trace) ms → isOver (z .stage) ≡ true
+    → z .printed ++ lastLine (z .stage) (z .read) ≡ replay trace
+lastLineEarly = overEarly
+
+-- the last line by where a replay stands: "bad group", "end" and the number of events, or "cut" and the next event's ordinal
+pub lastLines : (r : Running) (next : ℕ)
+    → (lastLine Start [] ∷ lastLine Bad [] ∷ lastLine (Runs r) [] ∷ lastLine (Runs r) (0 ∷ []) ∷ lastLine (Cut next) [] ∷ [])
+    ≡ badGroupLine ∷ badGroupLine ∷ endLine (r .next - 1) ∷ cutLine (r .next) ∷ cutLine next ∷ []
+unfolding lastLine
+lastLines r next = refl
+
+-- and the text by what stands at a place of the trace: an event's own, or the last line
+pub itemTexts : (e : Recorded) (text : Recorded → List ℕ) (next : ℕ)
+    → (textAt (anEvent e) text next ∷ textAt NoEvent text next ∷ textAt Short text next ∷ textAt End text next ∷ [])
+    ≡ text e ∷ cutLine next ∷ cutLine next ∷ endLine (next - 1) ∷ []
+unfolding textAt
+itemTexts e text next = refl
+
+-- numbers are printed in decimal with no leading zeros: the digits stand for the number, and the first is not 0, but in 0 itself
+pub decimalIsTheNumber : (n : ℕ) → valueFrom 0 (decimal n) ≡ n
+decimalIsTheNumber = decimalValue
+
+pub noLeadingZero : (n : ℕ) → 0 < n → 48 < getD (decimal n) 0 0
+noLeadingZero = decimalFirst

@@ -22,8 +22,8 @@ returns c =
     let g = c .before .before in let n = g .before in
     c .refused .ensures ∙ noGroup _ _ _ (rw (n .records .ensures) at (sym (g .bad-group .ensures) ∙ c .before .if1 .taken))
 
-lowest-of-ours-requires : tie.Need-lowest-of-ours-requires
-lowest-of-ours-requires c κs = search needs
+lowest-requires : tie.Need-lowest-requires
+lowest-requires c κs = search needs
 
 cast-search : tie.Need-cast-search
 cast-search c =
@@ -38,8 +38,8 @@ search-requires c κs =
 returns-2 : tie.Need-returns-2
 returns-2 c =
     let m = c .before in let g = m .before .before in let n = g .before in
-    rw (n .records .ensures, m .lowest-of-ours .ensures) at (c .search .ensures)
+    rw (n .records .ensures, m .lowest .ensures) at (c .search .ensures)
     ∙ inGroup _ _ _ (rw (n .records .ensures) at (sym (g .bad-group .ensures) ∙ m .before .if1 .left))
 
 pub select-spec : {M : Type 1} → statement M
-select-spec = tie.close (tie.spec records-requires bad-group-requires refused-requires returns lowest-of-ours-requires cast-search search-requires returns-2)
+select-spec = tie.close (tie.spec records-requires bad-group-requires refused-requires returns lowest-requires cast-search search-requires returns-2)
