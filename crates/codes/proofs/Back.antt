@@ -26,8 +26,8 @@ use Rattle.codes.specs.declared.Named.the-variants.{Known, Unknown}
 use Rattle.codes.specs.declared.Found.{Found}
 use Rattle.codes.specs.declared.Found.the-variants.{Is, Missing}
 use Rattle.codes.specs.Headings.{failureHeading, headingOf, octetOf, amongFailures, failureOf, failing, among, signalOf}
-use Rattle.codes.specs.Numbers.{refusalOf, bare, detailFits, arrives, signalEvent, complete, answer, failWith, commandEvent, timerEvent, eventOf}
-use Rattle.codes.specs.Back.{Numbers, ofSignal, ofCommand, ofTimer, numbersOf, OneOctet}
+use Rattle.codes.specs.Numbers.{refusalOf, bare, arrives, signalEvent, complete, answer, failWith, commandEvent, timerEvent, eventOf}
+use Rattle.codes.specs.Back.{ofSignal, ofCommand, ofTimer, numbersOf, OneOctet}
 
 signalBack : (s : Signal) → octetOf s ≤ 255 → eventOf (ofSignal s .0) (ofSignal s .1) (ofSignal s .2) ≡ Is (Arrives s)
 unfolding eventOf

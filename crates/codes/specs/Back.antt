@@ -4,7 +4,6 @@ use Prim.Native.Nat.{ℕ, _≤_}
 use Rattle.circuit.specs.declared.Charging.{Charging}
 use Rattle.circuit.specs.declared.Charging.the-variants.{Charged, Free}
 use Rattle.circuit.specs.declared.Signal.{Signal}
-use Rattle.circuit.specs.declared.Signal.the-variants.{Iam, Acm, Anc, Ann, Cbk, Clf, Ran, Rlg, Blo, Bla, Ubl, Uba, Rsc, Fail}
 use Rattle.circuit.specs.declared.Command.{Command}
 use Rattle.circuit.specs.declared.Command.the-variants.{Seize, Release, AddressComplete, Answer, ClearBack, ReAnswer, FailCall, Block, Unblock, Restart}
 use Rattle.circuit.specs.declared.Timer.{Timer}

@@ -1,6 +1,6 @@
 -- The heading octets of the signals, H0 + 16 · H1 (Q.723; document 01, "Signals that arrive").
 -- Assumes nothing.
-use mathlib.Core.Bool.{Bool, cond}
+use mathlib.Core.Bool.{cond}
 use mathlib.Core.List.{List, [], _∷_}
 use Prim.Native.Nat.{ℕ}
 use lib.Dec.{eqb}

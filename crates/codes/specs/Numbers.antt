@@ -4,13 +4,9 @@
 use mathlib.Core.Bool.{Bool, true, false, cond, _&&_, _||_}
 use Prim.Native.Nat.{ℕ}
 use lib.Dec.{eqb, leb}
-use Rattle.circuit.specs.declared.AddressType.{AddressType}
 use Rattle.circuit.specs.declared.AddressType.the-variants.{Plain, Charge, NoCharge, Payphone}
-use Rattle.circuit.specs.declared.Charging.{Charging}
 use Rattle.circuit.specs.declared.Charging.the-variants.{Charged, Free}
-use Rattle.circuit.specs.declared.Command.{Command}
 use Rattle.circuit.specs.declared.Command.the-variants.{Seize, Release, AddressComplete, Answer, ClearBack, ReAnswer, FailCall, Block, Unblock, Restart}
-use Rattle.circuit.specs.declared.Timer.{Timer}
 use Rattle.circuit.specs.declared.Timer.the-variants.{AddressWait, AnswerWait, IncomingHangUp, Repeat, OneMinute, BlockRepeat}
 use Rattle.circuit.specs.declared.Event.{Event}
 use Rattle.circuit.specs.declared.Event.the-variants.{Arrives, Ordered, RunsOut}

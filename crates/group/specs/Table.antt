@@ -1,7 +1,7 @@
 -- An event on a circuit of a group whose records lie in a lent table (document 01; the release
 -- ranks of document 02, T-01): what is answered, and what the table holds then.
 -- Assumes nothing.
-use mathlib.Core.Bool.{Bool, cond}
+use mathlib.Core.Bool.{cond}
 use mathlib.Core.List.{List}
 use Prim.Native.Nat.{ℕ, zero, suc, _+_}
 use lib.Dec.{leb}

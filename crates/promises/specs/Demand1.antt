@@ -4,11 +4,11 @@
 -- which refusal is given exactly when, and that it changes nothing. `firstOf` is the number of the first rule that holds, 0 for none.
 -- Assumes nothing.
 use mathlib.Core.Path.{_≡_, refl, sym, _∙_}
-use mathlib.Core.Bool.{Bool, true, false, not, _&&_, _||_}
+use mathlib.Core.Bool.{Bool, true, false, not, _&&_}
 use mathlib.Core.List.{List, [], _∷_, _++_}
 use mathlib.Core.Logic.{_↔_}
-use Prim.Native.Nat.{ℕ, suc, _+_, _/_, _%_, _<_, _≤_}
-use lib.Dec.{T, eqb, leb, ltb}
+use Prim.Native.Nat.{ℕ, suc, _+_, _/_, _%_, _<_}
+use lib.Dec.{eqb, leb, ltb}
 use lib.ListN.{length, getD, take, drop}
 use borrow.Author.Tests.{le-leb, lt-leb, lt-ltb}
 use native.Mathlib.Omega.{arith}
@@ -36,10 +36,9 @@ use Rattle.step.specs.Refusals.{allowed, runs, seizesBlocked, foundRules}
 use Rattle.step.specs.Frees.{freesFound}
 use Rattle.step.proofs.Refused.{refusesFound, keepsFound}
 use Rattle.layout.specs.Layout as table
-use Rattle.layout.specs.Layout.{recordsIn, counterIn, stateAt, flagsAt, recordOf, recordAt, allowedAt, tableOctets, idle}
+use Rattle.layout.specs.Layout.{recordsIn, counterIn, stateAt, recordOf, recordAt, allowedAt, tableOctets, idle}
 use Rattle.layout.proofs.Laws.{recordsBack}
 use Rattle.group.specs.Table.{stepIn}
-use Rattle.group.specs.Refusals.{rulesIn}
 use Rattle.group.specs.Runs.{Follows}
 use Rattle.group.proofs.Laws as group
 use Rattle.group.proofs.Valid.{never12}
@@ -47,11 +46,10 @@ use Rattle.formats.specs.Messages.{listed, isIam, half}
 use Rattle.formats.specs.Octets.{badCodes}
 use Rattle.reader.specs.Places.{cicIn, headingIn, countIn, addressIn}
 use Rattle.reader.specs.Reading.{elsewhere, unfit, fieldsOf}
-use Rattle.writer.specs.Writing.{Said, tooLarge, badAddress, octetsOf, writing}
+use Rattle.writer.specs.Writing.{Said, tooLarge, badAddress, octetsOf}
 use Rattle.link.specs.Entries.{readInto, writeFrom}
 use Rattle.inverse.specs.Octets.{Octets}
-use Rattle.inverse.specs.Host.{intoRules}
-use Rattle.inverse.proofs.Refusals.{readRefusal, intoRefusal, writeRefusal, fromRefusal, packs}
+use Rattle.inverse.proofs.Refusals.{intoRefusal, fromRefusal}
 use Rattle.inverse.proofs.Host.{intoKept, fromKept, fromFilled, intoFilled}
 
 -- EVENTS

@@ -37,7 +37,7 @@ use Rattle.layout.proofs.Laws.{flagsBack, recordBack}
 use Rattle.group.specs.Table.{taken, stepIn}
 use Rattle.group.proofs.Laws as group
 use Rattle.reader.specs.Reading.{fieldsOf}
-use Rattle.writer.specs.Writing.{Said, said, tooLarge, badAddress, octetsOf, writing}
+use Rattle.writer.specs.Writing.{Said, said, octetsOf, writing}
 use Rattle.inverse.specs.Octets.{Octets, cleared}
 use Rattle.inverse.specs.Said.{fieldsSaid, saidOf, lengthOf}
 use Rattle.inverse.proofs.Laws as messages

@@ -1,22 +1,19 @@
 -- The requests of document 02 that have landed: T-01, "Remember when a circuit was freed", and T-02, "Choose the circuit for us".
 -- Assumes nothing.
-use mathlib.Core.Path.{_≡_, refl, sym, _∙_}
-use mathlib.Core.Bool.{Bool, true, false, not, cond, _&&_, _||_}
+use mathlib.Core.Path.{_≡_, refl}
+use mathlib.Core.Bool.{Bool, true, not, cond, _&&_, _||_}
 use mathlib.Core.List.{List, [], _∷_}
-use mathlib.Core.Logic.{_↔_}
-use Prim.Native.Nat.{ℕ, suc, _+_, _<_, _≤_, _^_}
+use Prim.Native.Nat.{ℕ, _+_, _<_, _≤_, _^_}
 use lib.Dec.{T, eqb, leb}
 use lib.ListN.{length}
 use Rattle.circuit.specs.declared.Record.{Record}
-use Rattle.circuit.specs.declared.Signal.{Signal}
 use Rattle.circuit.specs.declared.Signal.the-variants.{Clf, Rlg, Rsc}
 use Rattle.circuit.specs.declared.Command.the-variants.{Seize}
 use Rattle.circuit.specs.declared.Event.{Event}
 use Rattle.circuit.specs.declared.Event.the-variants.{Arrives, Ordered}
 use Rattle.circuit.specs.Records.{valid}
 use Rattle.circuit.specs.Groups.{badGroup, controls}
-use Rattle.circuit.specs.Refusals.{Rule, refuse, firstOf, Given}
-use Rattle.circuit.proofs.Refusals.{exactly}
+use Rattle.circuit.specs.Refusals.{refuse, firstOf}
 use Rattle.codes.specs.declared.Found.{Found}
 use Rattle.codes.specs.declared.Found.the-variants.{Is}
 use Rattle.words.specs.Words.{largest}
@@ -26,10 +23,9 @@ use Rattle.step.proofs.Always.{freesListed}
 use Rattle.layout.specs.Layout.{recordsIn, counterIn, stateAt, rankAt, allowedAt, idle}
 use Rattle.group.specs.Table.{stepIn}
 use Rattle.group.specs.Runs.{Follows, events}
-use Rattle.group.proofs.Laws.{keepsLength}
 use Rattle.group.proofs.Ranks as ranks
 use Rattle.select.specs.First.{some}
-use Rattle.select.specs.Selection.{qualifies, bad, ours, stops, selectRules, selectIn}
+use Rattle.select.specs.Selection.{qualifies, selectIn}
 use Rattle.select.proofs.Laws as choices
 
 -- T-01. REMEMBER WHEN A CIRCUIT WAS FREED

@@ -5,7 +5,6 @@ use mathlib.Core.List.{List, [], _∷_}
 use Prim.Native.Nat.{ℕ, zero, suc, _+_}
 use lib.Dec.{eqb, leb, ltb}
 use lib.ListN.{length}
-use Rattle.circuit.specs.declared.Cic.{Cic}
 use Rattle.circuit.specs.Groups.{badGroup, controls}
 use Rattle.circuit.specs.Refusals.{Rule, refuse, firstOf}
 use Rattle.layout.specs.Layout.{recordsIn, stateAt, flagsAt, rankAt, recordOf, allowedAt}

@@ -1,18 +1,15 @@
 -- What is left of a buffer moves to its start, octet by octet.
 -- Assumes nothing.
-use mathlib.Core.Path.{_≡_, refl, ap, sym, _∙_}
-use mathlib.Core.List.{List, [], _∷_, _++_, append-assoc}
+use mathlib.Core.Path.{_≡_, ap, sym, _∙_}
+use mathlib.Core.List.{List, [], _∷_, _++_}
 use Prim.Native.Nat.{ℕ, suc, _+_, _-_, _≤_, _<_}
-use native.Mathlib.Nat.{add-comm}
 use native.Mathlib.Numerals.{add-one}
 use native.Mathlib.Omega.{arith}
 use lib.ListN.{length, getD, set, take, drop, length-append, length-drop}
 use lib.Seq.{length-take-le, take-suc, drop-cons, append-snoc, getD-append-add, getD-drop, set-at}
 use borrow.Author.Tests.{lt-ltb, le-ltb}
-use Rattle.text.specs.Writing.{Printed}
 use Rattle.words.specs.Octets.{over}
 use Rattle.trace.specs.Feed.{kept}
-use Rattle.trace.proofs.Loop.{fitsRoom}
 
 module _ (p : List ℕ) (at i : ℕ) (h : at + i < length p) where
   x : List ℕ

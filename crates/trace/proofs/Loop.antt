@@ -2,9 +2,9 @@
 -- Assumes nothing.
 use mathlib.Core.Path.{_≡_, refl, ap, sym, _∙_}
 use mathlib.Core.Bool.{true, false}
-use mathlib.Core.List.{List, [], _∷_, _++_, append-assoc, append-nil}
+use mathlib.Core.List.{List, _++_, append-assoc, append-nil}
 use Prim.Native.Nat.{ℕ, _+_, _-_, _≤_, _<_}
-use native.Mathlib.Nat.{add-zero, zero-add, add-assoc, sub-zero}
+use native.Mathlib.Nat.{add-zero, zero-add, sub-zero}
 use native.Mathlib.Omega.{arith}
 use lib.Dec.{eqb}
 use lib.ListN.{length, take, drop, length-append, length-drop, drop-of-length-le}
@@ -21,9 +21,9 @@ use Rattle.records.proofs.Items.{behindEvent}
 use Rattle.trace.specs.declared.Turn.{Turn}
 use Rattle.trace.specs.declared.Going.{Going}
 use Rattle.trace.specs.Replay.{onward}
-use Rattle.trace.specs.Feed.{Part, Share, noShare, share, shareAt, stops, stageAt, behind, run, answerOf}
+use Rattle.trace.specs.Feed.{Part, Share, noShare, share, shareAt, stops, behind, run}
 use Rattle.trace.specs.Way.{turnOf, wentOn, shareIn, Goes, ended, Ran}
-use Rattle.trace.proofs.Runs.{Shared, shared, takes, runStops, runGoes, twice}
+use Rattle.trace.proofs.Runs.{shared, takes, runStops, runGoes, twice}
 
 -- where the loop of a run stands: `at` octets are taken and `out` are written, and the run from here is what is left of the whole
 pub record Sofar (r₀ : Running) (table₀ part room₀ : List ℕ) (r : Running) (table room : List ℕ) (at out : ℕ) : Type 0 where

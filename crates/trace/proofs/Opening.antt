@@ -1,7 +1,7 @@
 -- The group at the start of a trace: each case of `begins` from the tests that lead to it.
 -- Assumes nothing.
-use mathlib.Core.Path.{_≡_, refl, ap, sym, _∙_}
-use mathlib.Core.Bool.{Bool, true, false}
+use mathlib.Core.Path.{_≡_, refl}
+use mathlib.Core.Bool.{true, false}
 use mathlib.Core.List.{List, []}
 use Prim.Native.Nat.{ℕ, _≤_, _<_}
 use native.Mathlib.Omega.{arith}
@@ -13,7 +13,6 @@ use Rattle.text.specs.Lines.{groupLine}
 use Rattle.text.specs.Writing.{Printed, inRoom, lineRoom}
 use Rattle.words.specs.Octets.{over}
 use Rattle.trace.specs.declared.Running.{Running}
-use Rattle.trace.specs.declared.Stage.{Stage}
 use Rattle.trace.specs.declared.Stage.the-variants.{Start, Bad, Runs}
 use Rattle.trace.specs.declared.Fed.{Fed}
 use Rattle.records.specs.Records.{octetsOf, refusedStart}

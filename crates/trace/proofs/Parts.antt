@@ -20,7 +20,7 @@ use Rattle.trace.specs.declared.Stage.{Stage}
 use Rattle.trace.specs.declared.Stage.the-variants.{Start, Bad, Runs, Cut}
 use Rattle.records.specs.Records.{octetsOf, item, recorded, ownIn, farIn, circuitsIn, refusedStart, badStart}
 use Rattle.trace.specs.Replay.{happens, eventText, onward, textAt, linesWithin, lines, opened, idle, replay}
-use Rattle.trace.specs.Feed.{Part, mayGo, shareOf, share, shareAt, stops, behind, runWithin, run, begins, fed, isOver, lastLine}
+use Rattle.trace.specs.Feed.{Part, mayGo, share, shareAt, stops, behind, runWithin, run, begins, fed, isOver, lastLine}
 use Rattle.records.proofs.Items.{never, whole, byItem, sameOctet, eventStays, noneStays}
 use Rattle.trace.proofs.Runs.{takes, runStops, runGoes}
 use Rattle.trace.specs.Parts.{textFrom, tableAfter, Move, Reads, Feeds, Standing, before, moved, after, whole-text, hasNext}

@@ -1,11 +1,10 @@
 -- One event of a replay: its share of the text and of the table, from what the functions that are called for it ensure.
 -- Assumes nothing.
-use mathlib.Core.Path.{_≡_, refl, ap, sym, _∙_}
-use mathlib.Core.Bool.{Bool, true, false}
-use mathlib.Core.List.{List, []}
-use Prim.Native.Nat.{ℕ, _+_, _-_, _^_, _≤_, _<_}
+use mathlib.Core.Path.{_≡_, refl, _∙_}
+use mathlib.Core.List.{List}
+use Prim.Native.Nat.{ℕ, _-_, _^_, _≤_, _<_}
 use native.Mathlib.Omega.{arith}
-use lib.ListN.{length, drop}
+use lib.ListN.{length}
 use borrow.Author.Tests.{le-ltb, le-leb, lt-leb, lt-ltb}
 use Rattle.codes.specs.declared.Found.{Found}
 use Rattle.codes.specs.Numbers.{eventOf}
@@ -21,9 +20,9 @@ use Rattle.records.specs.declared.Item.{Item}
 use Rattle.records.specs.declared.Item.the-variants.{Event}
 use Rattle.trace.specs.declared.Running.{Running}
 use Rattle.trace.specs.declared.Turn.{Turn}
-use Rattle.records.specs.Records.{octetsOf, item}
+use Rattle.records.specs.Records.{octetsOf}
 use Rattle.trace.specs.Replay.{happens, lineOf, eventText}
-use Rattle.trace.specs.Feed.{Share, noShare, shareOf, share, shareAt}
+use Rattle.trace.specs.Feed.{Share, shareOf, shareAt}
 use Rattle.trace.specs.Way.{noTurn, turnOf}
 
 -- a turn, the table and the room after it are a share's

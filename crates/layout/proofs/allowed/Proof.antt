@@ -4,9 +4,6 @@ use Rattle.layout.specs.Layout.{recordOf}
 use Rattle.layout.proofs.Laws.{allowedListed}
 use Rattle.layout.proofs.allowed.Statement.{statement}
 use Rattle.layout.proofs.allowed.Tie as tie
-use Rattle.layout.proofs.allowed.Reads as reads
-use Rattle.layout.proofs.allowed.Lts as lts
-use Rattle.layout.proofs.allowed_in.Reads as allowed-in-reads
 
 -- src/lib.rt:145:9
 returns : tie.Need-returns

@@ -1,8 +1,6 @@
 use borrow.Author.Tests.{lt-ltb, le-ltb}
 use Rattle.layout.proofs.allowed_in.Statement.{statement}
 use Rattle.layout.proofs.allowed_in.Tie as tie
-use Rattle.layout.proofs.allowed_in.Reads as reads
-use Rattle.layout.proofs.allowed_in.Lts as lts
 
 -- src/lib.rt:129:1
 returns : tie.Need-returns

@@ -3,10 +3,6 @@ use borrow.Author.Needs.{needs}
 use Rattle.layout.proofs.Laws.{octetsAt, noOctets}
 use Rattle.layout.proofs.stored_at.Statement.{statement}
 use Rattle.layout.proofs.stored_at.Tie as tie
-use Rattle.layout.proofs.stored_at.Reads as reads
-use Rattle.layout.proofs.stored_at.Lts as lts
-use Rattle.layout.proofs.table_octets.Reads as table-octets-reads
-use Rattle.words.proofs.number.Reads as number-reads
 
 -- src/lib.rt:78:9
 table-octets-requires : tie.Need-table-octets-requires

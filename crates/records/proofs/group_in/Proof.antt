@@ -1,9 +1,6 @@
 use borrow.Author.Needs.{needs}
 use Rattle.records.proofs.group_in.Statement.{statement}
 use Rattle.records.proofs.group_in.Tie as tie
-use Rattle.records.proofs.group_in.Reads as reads
-use Rattle.records.proofs.group_in.Lts as lts
-use Rattle.records.proofs.two.Reads as two-reads
 
 -- src/lib.rt:109:24
 two-requires : tie.Need-two-requires

@@ -4,7 +4,7 @@ use Rattle.records.specs.declared.Item.the-variants.{Event}
 use Rattle.records.proofs.Items.{octet-first, endsAt, noEventAt, shortAt, eventAt}
 use Rattle.records.specs.Records.{noEvent, octetsOf}
 use native.Mathlib.Omega.{arith}
-use mathlib.Core.Path.{_≡_, sym, ap, _∙_}
+use mathlib.Core.Path.{sym, ap, _∙_}
 use borrow.Author.Needs.{needs}
 use Rattle.records.proofs.item_at.Statement.{statement}
 use Rattle.records.proofs.item_at.Tie as tie

@@ -1,7 +1,6 @@
 -- `text::event_line` meets its contract.
 -- Assumes nothing.
 use Rattle.text.proofs.Writing.{whole, nothing}
-use native.Mathlib.Omega.{arith}
 use borrow.Author.Needs.{needs}
 use Rattle.text.proofs.event_line.Statement.{statement}
 use Rattle.text.proofs.event_line.Tie as tie

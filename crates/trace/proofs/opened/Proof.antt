@@ -1,9 +1,6 @@
 use borrow.Author.Needs.{needs}
 use Rattle.trace.proofs.opened.Statement.{statement}
 use Rattle.trace.proofs.opened.Tie as tie
-use Rattle.trace.proofs.opened.Reads as reads
-use Rattle.trace.proofs.opened.Lts as lts
-use Rattle.records.proofs.group_in.Reads as group-in-reads
 
 -- src/lib.rt:183:9
 group-in-requires : tie.Need-group-in-requires
