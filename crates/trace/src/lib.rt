@@ -1,5 +1,4 @@
-// A trace and its replay (document 01, "The trace and its replay"): the record at a place, and a replay that is fed the trace in parts and
-// writes its lines into lent room. The table is the group's, all zero before the first event.
+// The replay of a trace (document 01, "The trace and its replay"): it is fed the trace in parts, and writes its lines into lent room. The table is the group's, all zero before the first event.
 use circuit::Cic;
 use circuit::PointCode;
 use group::Answer;
