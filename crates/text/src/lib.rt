@@ -7,7 +7,7 @@ ghost use lib.ListN.{length};
 ghost use Rattle.text.specs.Numbers.{decimal, hexDigit, hex};
 ghost use Rattle.text.specs.Writing.{Printed, inRoom};
 ghost use Rattle.text.specs.Way.{Wrote};
-ghost use Rattle.text.specs.Lines.{field, noField, stateAndFlags, headings, line, groupLine, endLine, cutLine, badGroupLine};
+ghost use Rattle.text.specs.Lines.{field, stateAndFlags, headings, line, groupLine, endLine, cutLine, badGroupLine};
 
 // Six numbers of 20 digits and a space each, two headings and a comma, and the line feed.
 pub const LINE: usize = 132;

@@ -1,5 +1,4 @@
-// A trace and its replay (document 01, "The trace and its replay"): the record at a place, and a replay that is fed the trace in parts and
-// writes its lines into lent room. The table is the group's, all zero before the first event.
+// The replay of a trace (document 01, "The trace and its replay"): it is fed the trace in parts, and writes its lines into lent room. The table is the group's, all zero before the first event.
 use circuit::Cic;
 use circuit::PointCode;
 use group::Answer;
@@ -8,14 +7,13 @@ use records::Recorded;
 use text::Line;
 ghost use mathlib.Core.Path.{_≡_};
 ghost use mathlib.Core.List.{[]};
-ghost use Prim.Native.Nat.{_+_, _-_, _^_, _≤_, _<_, min};
-ghost use lib.ListN.{length, drop};
+ghost use Prim.Native.Nat.{_-_, _≤_, _<_, min};
+ghost use lib.ListN.{length};
 ghost use Rattle.text.specs.Writing.{Printed, inRoom};
 ghost use Rattle.words.specs.Octets.{over};
 ghost use Rattle.words.specs.Words.{largest};
-ghost use Rattle.records.specs.Records.{item};
 ghost use Rattle.trace.specs.Replay.{lineOf, onward, opened};
-ghost use Rattle.trace.specs.Feed.{shareOf, shareAt, stageAt, answerOf, run, stays, begins, fed, isOver, tableOctets, lastLine, kept};
+ghost use Rattle.trace.specs.Feed.{shareOf, shareAt, stageAt, answerOf, stays, begins, fed, isOver, tableOctets, lastLine, kept};
 ghost use Rattle.trace.specs.Way.{noTurn, turnOf, started, Goes, ended, Ran};
 
 // The largest ordinal; an event that has it is not taken, since none could follow.
