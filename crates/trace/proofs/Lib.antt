@@ -5,4 +5,4 @@ pub mod Parts
 pub mod Opening
 pub mod Kept
 pub mod Cases
-pub mod Again
+pub mod Relent

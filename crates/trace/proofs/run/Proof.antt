@@ -1,5 +1,5 @@
 -- `trace::run` meets its contract, by a walk of its code: one reader is made, and held while the loop goes from record to record by it.
--- Of the six functions that are called only their contracts are used. Table and room are lent again for each turn, and come back (`Again.antt`).
+-- Of the six functions that are called only their contracts are used. Table and room are lent again for each turn, and come back (`Relent.antt`).
 -- What the loop's state is, and what a turn makes of it, is in `Loop.antt`; here stands where it lies. The places in a context are those of `At`:
 -- the reader and the token of its lifetime, table, room and their tokens, the part, and then the locals from _17 down to _0, each with its room.
 -- Assumes nothing.
@@ -74,7 +74,7 @@ use Rattle.trace.proofs.Going as G
 use Rattle.trace.proofs.Going.Laws as G′
 use Rattle.trace.proofs.Fed as F
 use Rattle.trace.proofs.Fed.Laws as F′
-use Rattle.trace.proofs.Again.{LentAgain, lends-again, comes-back}
+use Rattle.trace.proofs.Relent.{Keeps, lend, regain}
 use Rattle.trace.proofs.Loop.{Sofar, first as at-first, nearer, again as goes-again, stopped, wentOver, wentFurther}
 use Rattle.trace.proofs.started as started-fn
 use Rattle.trace.proofs.started.Symbol as started-is
@@ -455,10 +455,10 @@ module _ {M : Type 1} (𝓤 : URA M) (H : Heap 𝓤) (A : Atoms 𝓤) (W : Given
           assigns ! (addr ! (from ! (fld ! refl (hop ! (look-in ! 34 (sub ! 0 refl (whole !))) (stop !))))) (from ! (stop !)) (init ! 20 refl (tt, tt)) $
           assigns ! (agg ! (and-then ! (load ! (from ! (stop !)) (look ! 20 refl)) (and-then ! (load ! (from ! (fld ! refl (stop !))) (look-in ! 34 (sub ! 1 refl (whole !)))) (no-more !)))) (from ! (stop !)) (init ! 18 refl (tt, (tt, (record { fits = big₂At t .0 }, tt)))) $
           lft-new ! tt (λ α. lft-new ! tt (λ β. move ! (5 ∷ 6 ∷ []) $
-          use2 W (later (some (λ (δ : GName). ‵ (Table (α ∷ []) (named 0) δ (t .table)) ⊛ ‵ (LentAgain u8 κ₀ (α ∷ []) q₀ γ₀ b₀ o₀ δ (t .table))))) (lends-again u8 κ₀ (α ∷ []) q₀ γ₀ b₀ o₀ 𝓤 H A W (named 0) (named 0) (t .table)) $ await ! tt $ pick ! (λ δ.
+          use2 W (later (some (λ (δ : GName). ‵ (Table (α ∷ []) (named 0) δ (t .table)) ⊛ ‵ (Keeps κ₀ (α ∷ []) q₀ γ₀ b₀ o₀ δ (t .table))))) (lend κ₀ (α ∷ []) q₀ γ₀ b₀ o₀ 𝓤 H A W (named 0) (named 0) (t .table) (big₀At t)) $ await ! tt $ pick ! (λ δ.
           split ! $
           move ! (7 ∷ 8 ∷ []) $
-          use2 W (later (some (λ (ε : GName). ‵ (Room' (β ∷ []) (named 1) ε (t .room)) ⊛ ‵ (LentAgain u8 κ₂ (β ∷ []) q₂ γ₂ b₂ o₂ ε (t .room))))) (lends-again u8 κ₂ (β ∷ []) q₂ γ₂ b₂ o₂ 𝓤 H A W (named 2) (named 1) (t .room)) $ await ! tt $ pick ! (λ ε.
+          use2 W (later (some (λ (ε : GName). ‵ (Room' (β ∷ []) (named 1) ε (t .room)) ⊛ ‵ (Keeps κ₂ (β ∷ []) q₂ γ₂ b₂ o₂ ε (t .room))))) (lend κ₂ (β ∷ []) q₂ γ₂ b₂ o₂ 𝓤 H A W (named 2) (named 1) (t .room) (big₂At t)) $ await ! tt $ pick ! (λ ε.
           split ! $
           move ! (5 ∷ 4 ∷ 6 ∷ 2 ∷ 0 ∷ []) $ join ! $ join ! $ join ! $ join ! $ use1 W (raw (OneTurn 𝓤 H A mem run .pre (to-turn t α β δ ε i w))) (goes-turn t α β δ ε i w) $
           calls-at ! fm (OneTurn 𝓤 H A mem run) (known .turn) (to-turn t α β δ ε i w) (and-then ! (load ! (from ! (stop !)) (look ! 26 refl)) (and-then ! (load ! (from ! (stop !)) (look ! 28 refl)) (and-then ! (load ! (from ! (stop !)) (look ! 20 refl)) (and-then ! (load ! (from ! (stop !)) (look ! 16 refl)) (no-more !))))) (λ v.
@@ -473,10 +473,10 @@ module _ {M : Type 1} (𝓤 : URA M) (H : Heap 𝓤) (A : Atoms 𝓤) (W : Given
           drop ! $
           -- table and room come back
           split ! $ lft-end ! tt $ move ! (1 ∷ []) $ split ! $ lft-end ! tt $ move ! (1 ∷ []) $ drop ! $ move ! (1 ∷ 5 ∷ 3 ∷ []) $
-          use3 W (later (‵ (TableAs (t .table) (zs .1 .1 .0)) ⊛ ‵ (flft κ₀ q₀))) (comes-back u8 κ₀ (α ∷ []) q₀ γ₀ b₀ o₀ 𝓤 H A W (named 0) (named 0) (t .table) δ (zs .1 .1 .0) (big₀At t) (went .keepsTable)) $ await ! tt $
+          use3 W (later (‵ (TableAs (t .table) (zs .1 .1 .0)) ⊛ ‵ (flft κ₀ q₀))) (regain κ₀ (α ∷ []) q₀ γ₀ b₀ o₀ 𝓤 H A W (named 0) (named 0) (t .table) (big₀At t) δ (zs .1 .1 .0) (went .keepsTable)) $ await ! tt $
           split ! $
           move ! (2 ∷ 4 ∷ 3 ∷ []) $
-          use3 W (later (‵ (RoomAs (t .room) (zs .1 .1 .1 .0)) ⊛ ‵ (flft κ₂ q₂))) (comes-back u8 κ₂ (β ∷ []) q₂ γ₂ b₂ o₂ 𝓤 H A W (named 2) (named 1) (t .room) ε (zs .1 .1 .1 .0) (big₂At t) (went .keepsRoom)) $ await ! tt $
+          use3 W (later (‵ (RoomAs (t .room) (zs .1 .1 .1 .0)) ⊛ ‵ (flft κ₂ q₂))) (regain κ₂ (β ∷ []) q₂ γ₂ b₂ o₂ 𝓤 H A W (named 2) (named 1) (t .room) (big₂At t) ε (zs .1 .1 .1 .0) (went .keepsRoom)) $ await ! tt $
           split ! $
           rewrite ! 2 (λ (n : ℕ). ‵ (MutSlice (named 0) κ₀ u8 .own (tab γ₀ (zs .1 .1 .0)) (sliceVal (b₀, o₀) n ∷ []))) (sym (went .keepsTable)) refl $ rewrite ! 37 (λ (n : ℕ). ‵ (fat fullShare τ₂ l₂ 0 (sliceVal (b₀, o₀) n))) (sym (went .keepsTable)) refl $
           rewrite ! 0 (λ (n : ℕ). ‵ (MutSlice (named 2) κ₂ u8 .own (rm γ₂ (zs .1 .1 .1 .0)) (sliceVal (b₂, o₂) n ∷ []))) (sym (went .keepsRoom)) refl $ rewrite ! 33 (λ (n : ℕ). ‵ (fat fullShare τ₄ l₄ 0 (sliceVal (b₂, o₂) n))) (sym (went .keepsRoom)) refl $
