@@ -4,12 +4,12 @@
 -- which refusal is given exactly when, and that it changes nothing. `firstOf` is the number of the first rule that holds, 0 for none.
 -- Assumes nothing.
 use mathlib.Core.Path.{_≡_, refl, sym, _∙_}
-use mathlib.Core.Bool.{Bool, true, false, not, _&&_}
+use mathlib.Core.Bool.{Bool, true, false, not, _&&_, _||_}
 use mathlib.Core.List.{List, [], _∷_, _++_}
 use mathlib.Core.Logic.{_↔_}
-use Prim.Native.Nat.{ℕ, suc, _+_, _/_, _%_, _<_}
+use Prim.Native.Nat.{ℕ, suc, _+_, _/_, _%_, _<_, _≤_}
 use lib.Dec.{eqb, leb, ltb}
-use lib.ListN.{length, getD, take, drop}
+use lib.ListN.{length, getD, take, drop, replicate}
 use borrow.Author.Tests.{le-leb, lt-leb, lt-ltb}
 use native.Mathlib.Omega.{arith}
 use Rattle.circuit.specs.declared.Record.{Record}
@@ -27,7 +27,8 @@ use Rattle.circuit.proofs.Refusals.{exactly}
 use Rattle.codes.specs.declared.Found.{Found}
 use Rattle.codes.specs.declared.Found.the-variants.{Is, Missing}
 use Rattle.codes.specs.Numbers.{eventOf}
-use Rattle.codes.specs.Back.{numbersOf, OneOctet}
+use Rattle.codes.specs.Headings.{headingOf, octetOf}
+use Rattle.codes.specs.Back.{numbersOf}
 use Rattle.codes.proofs.Back.{eventBack, numbersBack}
 use Rattle.words.specs.Octets.{numberOf}
 use Rattle.words.specs.Words.{largest}
@@ -39,7 +40,7 @@ use Rattle.layout.specs.Layout as table
 use Rattle.layout.specs.Layout.{recordsIn, counterIn, stateAt, recordOf, recordAt, allowedAt, tableOctets, idle}
 use Rattle.layout.proofs.Laws.{recordsBack}
 use Rattle.group.specs.Table.{stepIn}
-use Rattle.group.specs.Runs.{Follows}
+use Rattle.group.specs.Runs.{Follows, Follows.start, Follows.next}
 use Rattle.group.proofs.Laws as group
 use Rattle.group.proofs.Valid.{never12}
 use Rattle.formats.specs.Messages.{listed, isIam, half}
@@ -48,7 +49,6 @@ use Rattle.reader.specs.Places.{cicIn, headingIn, countIn, addressIn}
 use Rattle.reader.specs.Reading.{elsewhere, unfit, fieldsOf}
 use Rattle.writer.specs.Writing.{Said, tooLarge, badAddress, octetsOf}
 use Rattle.link.specs.Entries.{readInto, writeFrom}
-use Rattle.inverse.specs.Octets.{Octets}
 use Rattle.inverse.proofs.Refusals.{intoRefusal, fromRefusal}
 use Rattle.inverse.proofs.Host.{intoKept, fromKept, fromFilled, intoFilled}
 
@@ -91,9 +91,20 @@ timer6 r t = refl
 pub recordRefused : (c : Bool) (r : Record) (f : Found) → stepFound c r f .refusal ≡ firstOf (refuse 12 (not (valid r)) ∷ foundRules r f)
 recordRefused = refusesFound
 
--- 3: "no such signal, command or timer, a detail not listed". Numbers are read as an event exactly if they are its own.
-pub ownNumbersRead : (e : Event) → OneOctet e → eventOf (numbersOf e .0) (numbersOf e .1) (numbersOf e .2) ≡ Is e
-ownNumbersRead = eventBack
+-- 1: "a point code above 16383, codes equal, or 0 or more than 4096 records"
+pub groupRefused : (own far records : ℕ) → badGroup own far records ≡ (ltb 16383 own || ltb 16383 far || eqb own far || (eqb records 0 || ltb 4096 records))
+groupRefused own far records = refl
+
+-- 3: "no such signal, command or timer, a detail not listed". Numbers are read as an event exactly if they are its own; a signal's detail is ACM's
+-- octet, else 0.
+pub signalsRead : (s : Signal) → octetOf s ≤ 255 → eventOf 1 (headingOf s) (octetOf s) ≡ Is (Arrives s)
+signalsRead s h = eventBack (Arrives s) h
+
+pub commandsRead : (k : Command) → eventOf (numbersOf (Ordered k) .0) (numbersOf (Ordered k) .1) (numbersOf (Ordered k) .2) ≡ Is (Ordered k)
+commandsRead k = eventBack (Ordered k) tt
+
+pub timersRead : (t : Timer) → eventOf (numbersOf (RunsOut t) .0) (numbersOf (RunsOut t) .1) (numbersOf (RunsOut t) .2) ≡ Is (RunsOut t)
+timersRead t = eventBack (RunsOut t) tt
 
 pub noOthersRead : (kind code detail : ℕ) (e : Event) → eventOf kind code detail ≡ Is e → numbersOf e ≡ (kind, code, detail)
 noOthersRead = numbersBack
@@ -126,7 +137,17 @@ noFlagsAbove12 s f h = rw (lt-leb s 12 h) (go (leb f 15))
 pub noFlagsAbove15 : (s f : ℕ) → 15 < f → table.allowed s f ≡ false
 noFlagsAbove15 s f h = rw (lt-leb f 15 h) refl
 
--- a group that starts idle never answers 12
+-- `Follows own far first last`: events, any and however many, lead from the table `first` to `last`
+pub noEventYet : {own far : ℕ} {first : List ℕ} → Follows own far first first
+noEventYet = Follows.start
+
+pub oneMoreEvent : {own far : ℕ} {first last : List ℕ} → Follows own far first last → (cic : ℕ) (event : Found) → Follows own far first (stepIn own far last cic event .table)
+oneMoreEvent = Follows.next
+
+-- a group that starts idle, its table zeros, never answers 12
+pub idleIsZeros : (octets : ℕ) → idle octets ≡ replicate octets 0
+idleIsZeros octets = refl
+
 pub idleNever12 : {own far : ℕ} {table : List ℕ} (octets : ℕ) → Follows own far (idle octets) table
     → (cic : ℕ) (event : Found) → stepIn own far table cic event .answer .refusal ≡ 12 → ⊥
 idleNever12 = never12
@@ -201,7 +222,7 @@ pub writeKeeps : (own far count : ℕ) (m : Said) (buffer : List ℕ) → (write
 writeKeeps = fromKept
 
 -- a message that is read: the first 23 octets of the buffer give its fields back, and the others keep their contents
-pub readTells : (own far count : ℕ) (xs : List ℕ) → Octets xs → (buffer : List ℕ) → readInto own far count xs buffer .answer ≡ 0
+pub readTells : (own far count : ℕ) (xs : List ℕ) → ((i : ℕ) → i < length xs → getD xs i 0 < 256) → (buffer : List ℕ) → readInto own far count xs buffer .answer ≡ 0
     → let f = fieldsOf own far count xs in
     let after = readInto own far count xs buffer .buffer in
     (numberOf (getD after 0 0 ∷ getD after 1 0 ∷ []) ≡ f .circuit .0) × (getD after 2 0 ≡ f .heading) × (getD after 3 0 ≡ f .acm) × (getD after 4 0 ≡ f .category)

@@ -5,18 +5,20 @@
 use mathlib.Core.Path.{_≡_, refl, ap}
 use mathlib.Core.Bool.{Bool, true, false, not, cond, _&&_}
 use mathlib.Core.List.{List, [], _∷_, _++_, map}
-use Prim.Native.Nat.{ℕ, _+_, _-_, _<_, _≤_}
-use lib.Dec.{T, eqb, leb}
-use lib.ListN.{length, getD, take, replicate}
+use Prim.Native.Nat.{ℕ, _+_, _-_, _%_, _<_, _≤_}
+use lib.Dec.{T, eqb, leb, ltb}
+use lib.ListN.{length, getD, take, drop, replicate}
 use Rattle.circuit.specs.declared.Record.{Record}
 use Rattle.circuit.specs.declared.Failure.{Failure}
 use Rattle.circuit.specs.declared.Failure.the-variants.{Sec, Cgc, Nnc, Adi, Cfl, Ssb, Unn, Los, Sst}
 use Rattle.circuit.specs.declared.Signal.{Signal}
 use Rattle.circuit.specs.declared.Signal.the-variants.{Iam, Clf, Rlg, Blo, Bla, Rsc}
 use Rattle.circuit.specs.declared.Sends.the-variants.{Nothing, One, Two}
+use Rattle.circuit.specs.declared.Command.{Command}
 use Rattle.circuit.specs.declared.Command.the-variants.{Seize, FailCall, Restart}
+use Rattle.circuit.specs.declared.Timer.{Timer}
 use Rattle.circuit.specs.declared.Event.{Event}
-use Rattle.circuit.specs.declared.Event.the-variants.{Arrives, Ordered}
+use Rattle.circuit.specs.declared.Event.the-variants.{Arrives, Ordered, RunsOut}
 use Rattle.circuit.specs.declared.Outcome.{Outcome}
 use Rattle.circuit.specs.Records.{rec, plain, valid}
 use Rattle.circuit.specs.Groups.{badGroup, controls}
@@ -28,7 +30,8 @@ use Rattle.codes.specs.declared.NamedFailure.the-variants.{IsFailure, NoFailure
 use Rattle.codes.specs.Headings.{failureHeading, headingOf, octetOf, failureOf, signalOf, named, namedFailure}
 use Rattle.codes.proofs.Back.{headingIs, failureIs, failureNamed, signalNamed}
 use Rattle.words.specs.Octets.{over}
-use Rattle.step.specs.Step.{step, stepFound, isSignal, sent}
+use Rattle.words.specs.Words.{largest}
+use Rattle.step.specs.Step.{step, stepFound, sent}
 use Rattle.step.proofs.Always.{kept, oneSent}
 use Rattle.step.proofs.Erred.{freedOnlyByRlg, exactlyOneYields, crossingIsSilent, restartForgets}
 use Rattle.step.specs.Frees.{frees}
@@ -38,7 +41,7 @@ use Rattle.group.specs.Table.{taken, stepIn}
 use Rattle.group.proofs.Laws as group
 use Rattle.reader.specs.Reading.{fieldsOf}
 use Rattle.writer.specs.Writing.{Said, said, octetsOf, writing}
-use Rattle.inverse.specs.Octets.{Octets, cleared}
+use Rattle.inverse.specs.Octets.{cleared}
 use Rattle.inverse.specs.Said.{fieldsSaid, saidOf, lengthOf}
 use Rattle.inverse.proofs.Laws as messages
 use Rattle.inverse.specs.Cases.{Written, Arrived, Ordered as ToWrite, writtenCases, arrivedCases, orderedCases}
@@ -50,9 +53,9 @@ use Rattle.records.specs.declared.Recorded.{Recorded}
 use Rattle.records.specs.declared.Item.the-variants.{Event as anEvent, NoEvent, Short, End}
 use Rattle.trace.specs.declared.Running.{Running}
 use Rattle.trace.specs.declared.Stage.the-variants.{Start, Bad, Runs, Cut}
-use Rattle.trace.specs.Replay.{textAt, replay}
+use Rattle.trace.specs.Replay.{textAt, lines, replay}
 use Rattle.trace.specs.Feed.{fed, isOver, lastLine}
-use Rattle.trace.specs.Parts.{Move, Standing, before, after, whole-text, hasNext}
+use Rattle.trace.specs.Parts.{textFrom, tableAfter, Move, Move.Reads, Move.Feeds, Standing, before, moved, after, whole-text, hasNext}
 use Rattle.trace.specs.Cases.{wholeCase, wholeText}
 use Rattle.trace.proofs.Cases.{theWholeCase}
 use Rattle.trace.proofs.Parts.{inParts, finished, overEarly}
@@ -152,10 +155,20 @@ pub staysAllowed : (c : Bool) (r : Record) (e : Event) → T (valid r) → T (va
 staysAllowed = kept
 
 -- an accepted command or timer sends exactly one signal
-pub sendsOne : (c : Bool) (r : Record) (e : Event) → T (valid r) → T (not (isSignal e)) → step c r e .refusal ≡ 0 → sent (step c r e .sends) ≡ 1
-sendsOne = oneSent
+pub commandSendsOne : (c : Bool) (r : Record) (k : Command) → T (valid r) → step c r (Ordered k) .refusal ≡ 0 → sent (step c r (Ordered k) .sends) ≡ 1
+commandSendsOne c r k v = oneSent c r (Ordered k) v tt
 
--- of two different codes exactly one controls, whatever the circuit
+pub timerSendsOne : (c : Bool) (r : Record) (t : Timer) → T (valid r) → step c r (RunsOut t) .refusal ≡ 0 → sent (step c r (RunsOut t) .sends) ≡ 1
+timerSendsOne c r t v = oneSent c r (RunsOut t) v tt
+
+pub howManySent : (s t : Signal) → (sent Nothing ∷ sent (One s) ∷ sent (Two s t) ∷ []) ≡ 0 ∷ 1 ∷ 2 ∷ []
+howManySent s t = refl
+
+-- "The exchange with the higher point code is controlling for even CICs, the other for odd ones": of two different codes exactly one controls,
+-- whatever the circuit
+pub byParityOfCic : (own far cic : ℕ) → controls own far cic ≡ eqb (cic % 2) (cond (ltb far own) 0 1)
+byParityOfCic own far cic = refl
+
 pub oneEndControls : (own far cic : ℕ) → (own ≡ far → ⊥) → controls far own cic ≡ not (controls own far cic)
 oneEndControls = oneControls
 
@@ -218,7 +231,7 @@ pub readBack : (own far records : ℕ) (m : Said) (buffer : List ℕ) → writin
 readBack = messages.readingBack
 
 -- "and writing what was read gives the octets with spare bits and filler cleared": in the sender's group, wherever there is room.
-pub writtenBack : (own far records : ℕ) (xs : List ℕ) → Octets xs → fieldsOf own far records xs .refusal ≡ 0
+pub writtenBack : (own far records : ℕ) (xs : List ℕ) → ((i : ℕ) → i < length xs → getD xs i 0 < 256) → fieldsOf own far records xs .refusal ≡ 0
     → (buffer : List ℕ) → length xs ≤ length buffer
     → writing far own records (saidOf (fieldsOf own far records xs)) buffer
     ≡ record { answer = record { refusal = 0; length = length (cleared xs) }; buffer = over (cleared xs) buffer }
@@ -256,12 +269,43 @@ messagesRefused = orderedHold
 pub wholeCasePrints : replay wholeCase ≡ wholeText
 wholeCasePrints = theWholeCase
 
--- A trace may be read and fed in parts of any sizes, into rooms of any sizes: after every schedule, what is printed and what is still to come is
--- the text of the whole trace.
+-- A trace may be read and fed in parts of any sizes, into rooms of any sizes. A host reads some octets, or feeds what it has read and what was not
+-- taken yet (`fed` is what the contract of `trace::feed` cites):
+pub readsSome : (z : Standing) (n : ℕ)
+    → moved z (Reads n) ≡ record { stage = z .stage; table = z .table; read = z .read ++ take n (z .unread); unread = drop n (z .unread); printed = z .printed }
+unfolding moved
+readsSome z n = refl
+
+pub feedsSome : (z : Standing) (room : ℕ)
+    → let p = fed (z .stage) (z .table) (z .read) room in
+    moved z (Feeds room) ≡ record { stage = p .stage; table = tableAfter (z .stage) p; read = drop (p .taken) (z .read); unread = z .unread; printed = z .printed ++ p .text }
+unfolding moved
+feedsSome z room = refl
+
+pub oneAfterAnother : (z : Standing) (m : Move) (ms : List Move) → (after z [] ≡ z) × (after z (m ∷ ms) ≡ after (moved z m) ms)
+unfolding after
+oneAfterAnother z m ms = (refl, refl)
+
+pub nothingReadYet : (trace : List ℕ) → before trace ≡ record { stage = Start; table = []; read = []; unread = trace; printed = [] }
+nothingReadYet trace = refl
+
+-- after every schedule, what is printed and what is still to come is the text of the whole trace
+pub stillToCome : (z : Standing) → whole-text z ≡ z .printed ++ textFrom (z .stage) (z .table) (z .read ++ z .unread)
+unfolding whole-text
+stillToCome z = refl
+
+pub comesByStage : (r : Running) (next : ℕ) (table s : List ℕ)
+    → (textFrom Start table s ∷ textFrom Bad table s ∷ textFrom (Runs r) table s ∷ textFrom (Cut next) table s ∷ []) ≡ replay s ∷ badGroupLine ∷ lines r table s ∷ cutLine next ∷ []
+unfolding textFrom
+comesByStage r next table s = refl
+
 pub partsPrintTheWhole : (trace : List ℕ) (ms : List Move) → whole-text (after (before trace) ms) ≡ replay trace
 partsPrintTheWhole = inParts
 
--- where all was read and nothing more can be taken, the last line ends the text
+-- where all was read, nothing more can be taken and a further ordinal fits 64 bits, the last line ends the text
+pub ordinalsFit : (r : Running) (next : ℕ) → (hasNext Start ∷ hasNext Bad ∷ hasNext (Runs r) ∷ hasNext (Cut next) ∷ []) ≡ true ∷ true ∷ ltb (r .next) largest ∷ true ∷ []
+ordinalsFit r next = refl
+
 pub lastLineEnds : (trace : List ℕ) (ms : List Move) (n : ℕ) → 132 ≤ n → (z : Standing) → z ≡ after (before trace) ms
     → z .unread ≡ [] → hasNext (z .stage) ≡ true → fed (z .stage) (z .table) (z .read) n .taken ≡ 0
     → z .printed ++ lastLine (fed (z .stage) (z .table) (z .read) n .stage) (z .read) ≡ replay trace

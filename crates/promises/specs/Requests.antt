@@ -1,7 +1,7 @@
 -- The requests of document 02 that have landed: T-01, "Remember when a circuit was freed", and T-02, "Choose the circuit for us".
 -- Assumes nothing.
-use mathlib.Core.Path.{_≡_, refl}
-use mathlib.Core.Bool.{Bool, true, not, cond, _&&_, _||_}
+use mathlib.Core.Path.{_≡_, refl, ap}
+use mathlib.Core.Bool.{Bool, true, false, not, cond, _&&_, _||_}
 use mathlib.Core.List.{List, [], _∷_}
 use Prim.Native.Nat.{ℕ, _+_, _<_, _≤_, _^_}
 use lib.Dec.{T, eqb, leb}
@@ -20,12 +20,13 @@ use Rattle.words.specs.Words.{largest}
 use Rattle.step.specs.Step.{step}
 use Rattle.step.specs.Frees.{freed, frees}
 use Rattle.step.proofs.Always.{freesListed}
-use Rattle.layout.specs.Layout.{recordsIn, counterIn, stateAt, rankAt, allowedAt, idle}
+use Rattle.layout.specs.Layout.{recordsIn, counterIn, stateAt, rankAt, recordAt, allowedAt, idle}
 use Rattle.group.specs.Table.{stepIn}
-use Rattle.group.specs.Runs.{Follows, events}
+use Rattle.group.specs.Runs.{Follows, Follows.start, Follows.next, events}
 use Rattle.group.proofs.Ranks as ranks
 use Rattle.select.specs.First.{some}
 use Rattle.select.specs.Selection.{qualifies, selectIn}
+use Rattle.select.proofs.First.{someAt, noneAt}
 use Rattle.select.proofs.Laws as choices
 
 -- T-01. REMEMBER WHEN A CIRCUIT WAS FREED
@@ -88,7 +89,21 @@ pub no13AtFirst : {own far : ℕ} {table : List ℕ} (octets : ℕ) (f : Follows
     → (cic : ℕ) (event : Found) → stepIn own far table cic event .answer .refusal ≡ 13 → ⊥
 no13AtFirst = ranks.never13
 
+-- the number of events that led to a table
+pub noneCounted : {own far : ℕ} {first : List ℕ} → (f : Follows own far first first) → f ≡ Follows.start → events f ≡ 0
+noneCounted f e = ap events e
+
+pub oneMoreCounted : {own far : ℕ} {first last : List ℕ} (f : Follows own far first last) (cic : ℕ) (event : Found) → events (Follows.next f cic event) ≡ events f + 1
+oneMoreCounted f cic event = refl
+
 -- T-02. CHOOSE THE CIRCUIT FOR US
+
+-- `some n f`: one of the numbers below n passes the test f
+pub someBelow : (n : ℕ) (f : ℕ → Bool) (i : ℕ) → i < n → T (f i) → some n f ≡ true
+someBelow = someAt
+
+pub noneBelow : (n : ℕ) (f : ℕ → Bool) → some n f ≡ false → (i : ℕ) → i < n → T (f i) → ⊥
+noneBelow = noneAt
 
 module _ (own far : ℕ) (table : List ℕ) where
   abbrev n : ℕ
@@ -96,6 +111,10 @@ module _ (own far : ℕ) (table : List ℕ) where
 
   abbrev chosen : ℕ
   chosen = selectIn own far table .cic .0
+
+  -- a circuit qualifies that is idle and without far block
+  pub whatQualifies : (i : ℕ) → qualifies table i ≡ (eqb (stateAt table i) 0 && not (recordAt table i .far))
+  whatQualifies i = refl
 
   -- the chosen circuit is one of the table's, idle and without far block
   pub chosenQualifies : selectIn own far table .refusal ≡ 0 → (chosen < n) × T (qualifies table chosen)
