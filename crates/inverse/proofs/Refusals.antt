@@ -86,29 +86,14 @@ module _ (rules : List Rule) (answer : ℕ) (is : answer ≡ firstOf rules) wher
   accepted : T (numbered rules) → (answer ≡ 0) ↔ Clear rules
   accepted t = (λ e. clear rules t (sym is ∙ e), λ c. is ∙ noneGiven rules c)
 
--- Each refusal is answered exactly when its test holds and none before it does: of the reader, of the reader that fills a buffer, of the writer,
--- and of the number that a host in C gets from the writer.
-pub readGiven : (own far records : ℕ) (xs : List ℕ) (n : ℕ) → (fieldsOf own far records xs .refusal ≡ suc n) ↔ Given (suc n) (readRules own far records xs)
-readGiven own far records xs = answered (readRules own far records xs) (fieldsOf own far records xs .refusal) (readRefusal own far records xs)
-
 pub intoGiven : (own far count : ℕ) (xs buffer : List ℕ) (n : ℕ) → (readInto own far count xs buffer .answer ≡ suc n) ↔ Given (suc n) (intoRules own far count xs (length buffer))
 intoGiven own far count xs buffer = answered (intoRules own far count xs (length buffer)) (readInto own far count xs buffer .answer) (intoRefusal own far count xs buffer)
-
-pub writeGiven : (own far records : ℕ) (m : Said) (buffer : List ℕ) (n : ℕ) → (writing own far records m buffer .answer .refusal ≡ suc n) ↔ Given (suc n) (writeRules own far records m (length buffer))
-writeGiven own far records m buffer = answered (writeRules own far records m (length buffer)) (writing own far records m buffer .answer .refusal) (writeRefusal own far records m buffer)
 
 pub fromGiven : (own far count : ℕ) (m : Said) (buffer : List ℕ) (n : ℕ) → (writeFrom own far count m buffer .answer % 256 ≡ suc n) ↔ Given (suc n) (writeRules own far count m (length buffer))
 fromGiven own far count m buffer = answered (writeRules own far count m (length buffer)) (writeFrom own far count m buffer .answer % 256) (fromRefusal own far count m buffer)
 
--- And none is answered exactly when no test holds.
-pub readTaken : (own far records : ℕ) (xs : List ℕ) → (fieldsOf own far records xs .refusal ≡ 0) ↔ Clear (readRules own far records xs)
-readTaken own far records xs = accepted (readRules own far records xs) (fieldsOf own far records xs .refusal) (readRefusal own far records xs) tt
-
 pub intoTaken : (own far count : ℕ) (xs buffer : List ℕ) → (readInto own far count xs buffer .answer ≡ 0) ↔ Clear (intoRules own far count xs (length buffer))
 intoTaken own far count xs buffer = accepted (intoRules own far count xs (length buffer)) (readInto own far count xs buffer .answer) (intoRefusal own far count xs buffer) tt
-
-pub writeTaken : (own far records : ℕ) (m : Said) (buffer : List ℕ) → (writing own far records m buffer .answer .refusal ≡ 0) ↔ Clear (writeRules own far records m (length buffer))
-writeTaken own far records m buffer = accepted (writeRules own far records m (length buffer)) (writing own far records m buffer .answer .refusal) (writeRefusal own far records m buffer) tt
 
 pub fromTaken : (own far count : ℕ) (m : Said) (buffer : List ℕ) → (writeFrom own far count m buffer .answer % 256 ≡ 0) ↔ Clear (writeRules own far count m (length buffer))
 fromTaken own far count m buffer = accepted (writeRules own far count m (length buffer)) (writeFrom own far count m buffer .answer % 256) (fromRefusal own far count m buffer) tt

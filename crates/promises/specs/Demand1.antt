@@ -22,7 +22,7 @@ use Rattle.circuit.specs.declared.Event.the-variants.{Arrives, Ordered, RunsOut
 use Rattle.circuit.specs.Records.{valid}
 use Rattle.circuit.specs.Rows.{refused}
 use Rattle.circuit.specs.Groups.{badGroup, controls}
-use Rattle.circuit.specs.Refusals.{Rule, refuse, firstOf, Given}
+use Rattle.circuit.specs.Refusals.{Rule, refuse, firstOf, Given, Clear}
 use Rattle.circuit.proofs.Refusals.{exactly}
 use Rattle.codes.specs.declared.Found.{Found}
 use Rattle.codes.specs.declared.Found.the-variants.{Is, Missing}
@@ -49,7 +49,7 @@ use Rattle.reader.specs.Places.{cicIn, headingIn, countIn, addressIn}
 use Rattle.reader.specs.Reading.{elsewhere, unfit, fieldsOf}
 use Rattle.writer.specs.Writing.{Said, tooLarge, badAddress, octetsOf}
 use Rattle.link.specs.Entries.{readInto, writeFrom}
-use Rattle.inverse.proofs.Refusals.{intoRefusal, fromRefusal}
+use Rattle.inverse.proofs.Refusals.{intoRefusal, intoGiven, intoTaken, fromRefusal, fromGiven, fromTaken}
 use Rattle.inverse.proofs.Host.{intoKept, fromKept, fromFilled, intoFilled}
 
 -- EVENTS
@@ -166,6 +166,8 @@ tableHolds = recordsBack
 
 -- MESSAGES
 
+-- A message is taken exactly where no rule holds (`Clear`).
+
 -- "Reader: 1; under 6 octets, 7; 8; 9; length not fitting the heading (IAM under 9), 7; IAM count zero, 10; IAM length not 9 plus half the count
 -- rounded up, 7; codes, 10; then 2." Last 11, where the room is under 23 octets.
 abbrev readerRules : (own far count : ℕ) → (octets : List ℕ) → (room : ℕ) → List Rule
@@ -187,10 +189,10 @@ readRefused = intoRefusal
 
 pub readGiven : (own far count : ℕ) (xs buffer : List ℕ) (n : ℕ)
     → (readInto own far count xs buffer .answer ≡ suc n) ↔ Given (suc n) (readerRules own far count xs (length buffer))
-readGiven own far count xs buffer n = (
-  λ e. exactly (readerRules own far count xs (length buffer)) n .0 (sym (readRefused own far count xs buffer) ∙ e),
-  λ g. readRefused own far count xs buffer ∙ exactly (readerRules own far count xs (length buffer)) n .1 g,
-)
+readGiven = intoGiven
+
+pub readTaken : (own far count : ℕ) (xs buffer : List ℕ) → (readInto own far count xs buffer .answer ≡ 0) ↔ Clear (readerRules own far count xs (length buffer))
+readTaken = intoTaken
 
 -- "Writer: 1, 2, 9, 3, 10, 11."
 abbrev writerRules : (own far count : ℕ) → Said → (room : ℕ) → List Rule
@@ -208,10 +210,10 @@ writeRefused = fromRefusal
 
 pub writeGiven : (own far count : ℕ) (m : Said) (buffer : List ℕ) (n : ℕ)
     → (writeFrom own far count m buffer .answer % 256 ≡ suc n) ↔ Given (suc n) (writerRules own far count m (length buffer))
-writeGiven own far count m buffer n = (
-  λ e. exactly (writerRules own far count m (length buffer)) n .0 (sym (writeRefused own far count m buffer) ∙ e),
-  λ g. writeRefused own far count m buffer ∙ exactly (writerRules own far count m (length buffer)) n .1 g,
-)
+writeGiven = fromGiven
+
+pub writeTaken : (own far count : ℕ) (m : Said) (buffer : List ℕ) → (writeFrom own far count m buffer .answer % 256 ≡ 0) ↔ Clear (writerRules own far count m (length buffer))
+writeTaken = fromTaken
 
 -- a refusal leaves the buffer as it was
 pub readKeeps : (own far count : ℕ) (xs buffer : List ℕ) → (readInto own far count xs buffer .answer ≡ 0 → ⊥) → readInto own far count xs buffer .buffer ≡ buffer

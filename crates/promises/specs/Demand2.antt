@@ -5,7 +5,7 @@
 use mathlib.Core.Path.{_≡_, refl, ap}
 use mathlib.Core.Bool.{Bool, true, false, not, cond, _&&_}
 use mathlib.Core.List.{List, [], _∷_, _++_, map}
-use Prim.Native.Nat.{ℕ, _+_, _-_, _%_, _<_, _≤_}
+use Prim.Native.Nat.{ℕ, _+_, _-_, _/_, _%_, _<_, _≤_}
 use lib.Dec.{T, eqb, leb, ltb}
 use lib.ListN.{length, getD, take, drop, replicate}
 use Rattle.circuit.specs.declared.Record.{Record}
@@ -43,6 +43,9 @@ use Rattle.reader.specs.Reading.{fieldsOf}
 use Rattle.writer.specs.Writing.{Said, said, octetsOf, writing}
 use Rattle.inverse.specs.Octets.{cleared}
 use Rattle.inverse.specs.Said.{fieldsSaid, saidOf, lengthOf}
+use Rattle.link.specs.Entries.{readInto, writeFrom}
+use Rattle.inverse.specs.Host.{Holds}
+use Rattle.inverse.proofs.Host.{carried}
 use Rattle.inverse.proofs.Laws as messages
 use Rattle.inverse.specs.Cases.{Written, Arrived, Ordered as ToWrite, writtenCases, arrivedCases, orderedCases}
 use Rattle.inverse.proofs.Cases.{writtenHold, arrivedHold, orderedHold}
@@ -229,6 +232,13 @@ pub readBack : (own far records : ℕ) (m : Said) (buffer : List ℕ) → writin
     → (theirs : ℕ) → badGroup far own theirs ≡ false → m .cic < theirs
     → fieldsOf far own theirs (take (writing own far records m buffer .answer .length) (writing own far records m buffer .buffer)) ≡ fieldsSaid m
 readBack = messages.readingBack
+
+-- the same through the entries for C: what one host has written, the other reads from the octets on the link, and its 23 octets hold what was said
+pub carriedOver : (own far count : ℕ) (m : Said) (buffer : List ℕ) → writeFrom own far count m buffer .answer % 256 ≡ 0
+    → (theirs : ℕ) → badGroup far own theirs ≡ false → m .cic < theirs → (out : List ℕ) → 23 ≤ length out
+    → let told = readInto far own theirs (take (writeFrom own far count m buffer .answer / 256) (writeFrom own far count m buffer .buffer)) out in
+    (told .answer ≡ 0) × Holds (told .buffer) (fieldsSaid m)
+carriedOver = carried
 
 -- "and writing what was read gives the octets with spare bits and filler cleared": in the sender's group, wherever there is room.
 pub writtenBack : (own far records : ℕ) (xs : List ℕ) → ((i : ℕ) → i < length xs → getD xs i 0 < 256) → fieldsOf own far records xs .refusal ≡ 0
