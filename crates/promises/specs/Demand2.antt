@@ -66,17 +66,17 @@ use Rattle.trace.proofs.Parts.{inParts, finished, overEarly}
 -- THE CASES P1 TO P10
 
 -- what a case gives: an event's outcome, whether an end controls a circuit, a message's octets
-pub data Given : Type 0 where
-  outcome : Outcome → Given
-  controlling : Bool → Given
-  octets : List ℕ → Given
+pub data Result : Type 0 where
+  outcome : Outcome → Result
+  controlling : Bool → Result
+  octets : List ℕ → Result
 
 pub record Case : Type 0 where
   pub number : ℕ
-  pub gives : Given
-  pub wanted : Given
+  pub gives : Result
+  pub wanted : Result
 
-abbrev p : ℕ → Given → Given → Case
+abbrev p : ℕ → Result → Result → Case
 p n a b = record { number = n; gives = a; wanted = b }
 
 -- an event on a record, in both roles, and what it is to answer

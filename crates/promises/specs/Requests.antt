@@ -1,9 +1,10 @@
 -- The requests of document 02 that have landed: T-01, "Remember when a circuit was freed", and T-02, "Choose the circuit for us".
 -- Assumes nothing.
-use mathlib.Core.Path.{_≡_, refl, ap}
+use mathlib.Core.Path.{_≡_, refl, sym, ap, _∙_}
 use mathlib.Core.Bool.{Bool, true, false, not, cond, _&&_, _||_}
 use mathlib.Core.List.{List, [], _∷_}
-use Prim.Native.Nat.{ℕ, _+_, _<_, _≤_, _^_}
+use mathlib.Core.Logic.{_↔_}
+use Prim.Native.Nat.{ℕ, suc, _+_, _<_, _≤_, _^_}
 use lib.Dec.{T, eqb, leb}
 use lib.ListN.{length}
 use Rattle.circuit.specs.declared.Record.{Record}
@@ -13,7 +14,8 @@ use Rattle.circuit.specs.declared.Event.{Event}
 use Rattle.circuit.specs.declared.Event.the-variants.{Arrives, Ordered}
 use Rattle.circuit.specs.Records.{valid}
 use Rattle.circuit.specs.Groups.{badGroup, controls}
-use Rattle.circuit.specs.Refusals.{refuse, firstOf}
+use Rattle.circuit.specs.Refusals.{Rule, refuse, firstOf, Given}
+use Rattle.circuit.proofs.Refusals.{exactly}
 use Rattle.codes.specs.declared.Found.{Found}
 use Rattle.codes.specs.declared.Found.the-variants.{Is}
 use Rattle.words.specs.Words.{largest}
@@ -139,9 +141,14 @@ module _ (own far : ℕ) (table : List ℕ) where
   lookedAt = choices.counts own far table
 
   -- "Refusals: 1 and 12 (any bad record, sought first and not counted), then 14, given exactly if no circuit qualifies"
-  pub choiceRefused : selectIn own far table .refusal
-      ≡ firstOf (refuse 1 (badGroup own far n) ∷ refuse 12 (some n (λ i. not (allowedAt table i))) ∷ refuse 14 (not (some n (qualifies table))) ∷ [])
+  abbrev choiceRules : List Rule
+  choiceRules = refuse 1 (badGroup own far n) ∷ refuse 12 (some n (λ i. not (allowedAt table i))) ∷ refuse 14 (not (some n (qualifies table))) ∷ []
+
+  pub choiceRefused : selectIn own far table .refusal ≡ firstOf choiceRules
   choiceRefused = choices.refusals own far table
+
+  pub choiceGiven : (k : ℕ) → (selectIn own far table .refusal ≡ suc k) ↔ Given (suc k) choiceRules
+  choiceGiven k = (λ e. exactly choiceRules k .0 (sym choiceRefused ∙ e), λ g. choiceRefused ∙ exactly choiceRules k .1 g)
 
   -- "each reports circuit 0 and count 0"
   pub refusedReportsNone : (selectIn own far table .refusal ≡ 0 → ⊥) → (chosen ≡ 0) × (selectIn own far table .looked ≡ 0)
