@@ -80,7 +80,7 @@ fromRefusal own far count m buffer = packs own far count m buffer .refusal ∙ w
 
 -- an answer that is the first rule that holds
 module _ (rules : List Rule) (answer : ℕ) (is : answer ≡ firstOf rules) where
-  answered : (n : ℕ) → (answer ≡ suc n) ↔ Given (suc n) rules
+  pub answered : (n : ℕ) → (answer ≡ suc n) ↔ Given (suc n) rules
   answered n = (λ e. exactly rules n .0 (sym is ∙ e), λ g. is ∙ exactly rules n .1 g)
 
   accepted : T (numbered rules) → (answer ≡ 0) ↔ Clear rules

@@ -3,7 +3,7 @@
 -- That there is an answer for all arguments is what the check of the program shows: no public function has a `requires`, and each ends. Here stands
 -- which refusal is given exactly when, and that it changes nothing. `firstOf` is the number of the first rule that holds, 0 for none.
 -- Assumes nothing.
-use mathlib.Core.Path.{_≡_, refl, sym, _∙_}
+use mathlib.Core.Path.{_≡_, refl}
 use mathlib.Core.Bool.{Bool, true, false, not, _&&_, _||_}
 use mathlib.Core.List.{List, [], _∷_, _++_}
 use mathlib.Core.Logic.{_↔_}
@@ -23,7 +23,6 @@ use Rattle.circuit.specs.Records.{valid}
 use Rattle.circuit.specs.Rows.{refused}
 use Rattle.circuit.specs.Groups.{badGroup, controls}
 use Rattle.circuit.specs.Refusals.{Rule, refuse, firstOf, Given, Clear}
-use Rattle.circuit.proofs.Refusals.{exactly}
 use Rattle.codes.specs.declared.Found.{Found}
 use Rattle.codes.specs.declared.Found.the-variants.{Is, Missing}
 use Rattle.codes.specs.Numbers.{eventOf}
@@ -49,7 +48,7 @@ use Rattle.reader.specs.Places.{cicIn, headingIn, countIn, addressIn}
 use Rattle.reader.specs.Reading.{elsewhere, unfit, fieldsOf}
 use Rattle.writer.specs.Writing.{Said, tooLarge, badAddress, octetsOf}
 use Rattle.link.specs.Entries.{readInto, writeFrom}
-use Rattle.inverse.proofs.Refusals.{intoRefusal, intoGiven, intoTaken, fromRefusal, fromGiven, fromTaken}
+use Rattle.inverse.proofs.Refusals.{answered, intoRefusal, intoGiven, intoTaken, fromRefusal, fromGiven, fromTaken}
 use Rattle.inverse.proofs.Host.{intoKept, fromKept, fromFilled, intoFilled}
 
 -- EVENTS
@@ -69,10 +68,7 @@ eventRefused = group.refusals
 -- each number is given exactly when its rule holds and none before it does
 pub eventGiven : (own far : ℕ) (table : List ℕ) (cic : ℕ) (event : Found) (n : ℕ)
     → (stepIn own far table cic event .answer .refusal ≡ suc n) ↔ Given (suc n) (eventRules own far table cic event)
-eventGiven own far table cic event n = (
-  λ e. exactly (eventRules own far table cic event) n .0 (sym (eventRefused own far table cic event) ∙ e),
-  λ g. eventRefused own far table cic event ∙ exactly (eventRules own far table cic event) n .1 g,
-)
+eventGiven own far table cic event = answered (eventRules own far table cic event) (stepIn own far table cic event .answer .refusal) (eventRefused own far table cic event)
 
 -- an event's own: 3 for numbers that name none; of a signal none; of a command 4 and 5; of a timer 6
 pub noEvent3 : (r : Record) → foundRules r Missing ≡ refuse 3 true ∷ []

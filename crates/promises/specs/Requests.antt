@@ -1,6 +1,6 @@
 -- The requests of document 02 that have landed: T-01, "Remember when a circuit was freed", and T-02, "Choose the circuit for us".
 -- Assumes nothing.
-use mathlib.Core.Path.{_≡_, refl, sym, ap, _∙_}
+use mathlib.Core.Path.{_≡_, refl, ap}
 use mathlib.Core.Bool.{Bool, true, false, not, cond, _&&_, _||_}
 use mathlib.Core.List.{List, [], _∷_}
 use mathlib.Core.Logic.{_↔_}
@@ -15,7 +15,6 @@ use Rattle.circuit.specs.declared.Event.the-variants.{Arrives, Ordered}
 use Rattle.circuit.specs.Records.{valid}
 use Rattle.circuit.specs.Groups.{badGroup, controls}
 use Rattle.circuit.specs.Refusals.{Rule, refuse, firstOf, Given}
-use Rattle.circuit.proofs.Refusals.{exactly}
 use Rattle.codes.specs.declared.Found.{Found}
 use Rattle.codes.specs.declared.Found.the-variants.{Is}
 use Rattle.words.specs.Words.{largest}
@@ -30,6 +29,7 @@ use Rattle.select.specs.First.{some}
 use Rattle.select.specs.Selection.{qualifies, selectIn}
 use Rattle.select.proofs.First.{someAt, noneAt}
 use Rattle.select.proofs.Laws as choices
+use Rattle.inverse.proofs.Refusals.{answered}
 
 -- T-01. REMEMBER WHEN A CIRCUIT WAS FREED
 
@@ -148,7 +148,7 @@ module _ (own far : ℕ) (table : List ℕ) where
   choiceRefused = choices.refusals own far table
 
   pub choiceGiven : (k : ℕ) → (selectIn own far table .refusal ≡ suc k) ↔ Given (suc k) choiceRules
-  choiceGiven k = (λ e. exactly choiceRules k .0 (sym choiceRefused ∙ e), λ g. choiceRefused ∙ exactly choiceRules k .1 g)
+  choiceGiven = answered choiceRules (selectIn own far table .refusal) choiceRefused
 
   -- "each reports circuit 0 and count 0"
   pub refusedReportsNone : (selectIn own far table .refusal ≡ 0 → ⊥) → (chosen ≡ 0) × (selectIn own far table .looked ≡ 0)
