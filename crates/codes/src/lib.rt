@@ -8,6 +8,7 @@ use circuit::Sends;
 use circuit::Signal;
 use circuit::Timer;
 ghost use mathlib.Core.Path.{_≡_};
+ghost use Prim.Native.Nat.{_<_};
 ghost use Rattle.codes.specs.Headings.{failureHeading, headingOf, failureOf, failing, signalOf, firstHeading, secondHeading};
 ghost use Rattle.codes.specs.Numbers.{bare, arrives, signalEvent, complete, answer, failWith, commandEvent, timerEvent, eventOf};
 
@@ -28,7 +29,7 @@ pub enum Found {
     Missing,
 }
 
-fn failure_heading(f: Failure) -> u8
+pub fn failure_heading(f: Failure) -> u8
     ensures { λ r. ⌜ r ≡ failureHeading f ⌝ }
 {
     match f {
@@ -154,15 +155,27 @@ fn arrives(n: Named) -> Found
     }
 }
 
+// A signal with a detail that is not 0: an ACM with its octet.
+fn with_octet(code: u32, detail: u32) -> Found
+    requires { ⌜ 0 < detail ⌝ }
+    ensures { λ r. ⌜ r ≡ signalEvent code detail ⌝ }
+{
+    if 255 < detail {
+        return Found::Missing;
+    }
+    if code == 0x14 {
+        return Found::Is(Event::Arrives(Signal::Acm(detail as u8)));
+    }
+    Found::Missing
+}
+
 fn signal_event(code: u32, detail: u32) -> Found
     ensures { λ r. ⌜ r ≡ signalEvent code detail ⌝ }
 {
-    if detail <= 255 {
-        if circuit::either(code == 0x14, detail == 0) {
-            return arrives(signal_of(code, detail as u8));
-        }
+    if 0 < detail {
+        return with_octet(code, detail);
     }
-    Found::Missing
+    arrives(signal_of(code, 0))
 }
 
 fn complete(detail: u32) -> Found

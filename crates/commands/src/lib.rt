@@ -1,142 +1,143 @@
-// What a command of the host and a timer do to a circuit: document 01's second table and its timers, a function each, the rows in the
-// printed order.
+// What a command of the host and a timer do to a circuit: document 01's second table and its timers, a function each. A record is two octets, its
+// state and its flags; the answer is one number (`answers`).
 use circuit::AddressType;
 use circuit::Charging;
 use circuit::Command;
 use circuit::Failure;
-use circuit::Outcome;
-use circuit::Record;
-use circuit::Row;
-use circuit::Sends::One;
-use circuit::Signal;
-use circuit::Signal::Acm;
-use circuit::Signal::Blo;
-use circuit::Signal::Cbk;
-use circuit::Signal::Clf;
-use circuit::Signal::Fail;
-use circuit::Signal::Iam;
-use circuit::Signal::Ran;
-use circuit::Signal::Rsc;
-use circuit::Signal::Ubl;
 use circuit::Timer;
 ghost use mathlib.Core.Path.{_≡_};
-ghost use mathlib.Core.Bool.{cond};
-ghost use Prim.Native.Nat.{_<_};
-ghost use Rattle.commands.specs.Tables.{late, answerSignal, seizeRefusal, onCommand, onTimer};
-ghost use Rattle.circuit.specs.Records.{typeBits, completeOctet};
+ghost use mathlib.Core.Bool.{cond, _&&_};
+ghost use lib.Dec.{leb};
+ghost use Rattle.answers.specs.Answers.{word};
+ghost use Rattle.commands.specs.Tables.{late};
+ghost use Rattle.commands.specs.Way.{within, commandWay, timerWay};
+ghost use Rattle.codes.specs.Headings.{headingOf};
+ghost use Rattle.commands.specs.Tables.{answerSignal};
 
-// The record after a restart: awaiting reset, no flag.
-const RESTARTED: Record = Record {
-    state: 12,
-    own: false,
-    far: false,
-    bla: false,
-    uba: false,
-};
-
-fn seize_refusal(rec: Record) -> u8
-    ensures { λ r. ⌜ r ≡ seizeRefusal rec ⌝ }
+// An event that is taken in the states from `low` to `high`: it sends a signal and goes to a new state, with the flags as they are. Elsewhere it is
+// refused.
+fn within(state: u8, flags: u8, low: u8, high: u8, heading: u8, new: u8, ind: u8, unmet: u8) -> u64
+    ensures { λ r. ⌜ r ≡ within state flags low high heading new ind unmet ⌝ }
 {
-    if circuit::both(rec.state == 0, rec.far) {
-        4
+    if circuit::both(low <= state, state <= high) {
+        answers::sent(heading, new, flags, ind)
     } else {
-        5
+        answers::refused(unmet, state, flags)
     }
 }
 
-fn seize(rec: Record) -> Outcome
-    ensures { λ r. ⌜ r ≡ onCommand rec Command.Seize ⌝ }
+fn seize(state: u8, flags: u8) -> u64
+    ensures { λ r. ⌜ r ≡ commandWay state flags Command.Seize ⌝ }
 {
-    rows::rows1(
-        rec,
-        Row(0, 0, !rec.far, One(Iam), Record { state: 1, ..rec }, 0),
-        seize_refusal(rec),
-    )
-}
-
-fn release(rec: Record) -> Outcome
-    ensures { λ r. ⌜ r ≡ onCommand rec Command.Release ⌝ }
-{
-    rows::rows1(
-        rec,
-        Row(1, 4, true, One(Clf), Record { state: 5, ..rec }, 0),
-        5,
-    )
-}
-
-fn type_bits(t: AddressType) -> u8
-    ensures { λ r. ⌜ (r ≡ typeBits t) × (r < 4) ⌝ }
-{
-    match t {
-        AddressType::Plain => 0,
-        AddressType::Charge => 1,
-        AddressType::NoCharge => 2,
-        AddressType::Payphone => 3,
-    }
-}
-
-fn complete_octet(t: AddressType, free: bool) -> u8
-    ensures { λ r. ⌜ r ≡ completeOctet t free ⌝ }
-{
-    if free {
-        type_bits(t) + 4
+    if circuit::both(state == names::IDLE, flags / 2 % 2 == 1) {
+        answers::refused(names::FAR_BLOCKED, state, flags)
     } else {
-        type_bits(t) + 0
+        within(
+            state,
+            flags,
+            names::IDLE,
+            names::IDLE,
+            names::IAM,
+            names::OUT_SEIZED,
+            names::IND_NOTHING,
+            names::COMMAND_NOT_ALLOWED,
+        )
     }
+}
+
+fn release(state: u8, flags: u8) -> u64
+    ensures { λ r. ⌜ r ≡ commandWay state flags Command.Release ⌝ }
+{
+    within(
+        state,
+        flags,
+        names::OUT_SEIZED,
+        names::OUT_HUNG_UP,
+        names::CLF,
+        names::AWAITING_RELEASE_GUARD,
+        names::IND_NOTHING,
+        names::COMMAND_NOT_ALLOWED,
+    )
 }
 
 fn proceeding(free: bool) -> u8
     ensures { λ r. ⌜ r ≡ cond free 8 7 ⌝ }
 {
-    if free { 8 } else { 7 }
-}
-
-fn address_complete(rec: Record, t: AddressType, free: bool) -> Outcome
-    ensures { λ r. ⌜ r ≡ onCommand rec (Command.AddressComplete t free) ⌝ }
-{
-    let octet = complete_octet(t, free);
-    let state = proceeding(free);
-    let after = Record { state, ..rec };
-    rows::rows1(rec, Row(6, 6, true, One(Acm(octet)), after, 0), 5)
-}
-
-fn answer_signal(charging: Charging) -> Signal
-    ensures { λ r. ⌜ r ≡ answerSignal charging ⌝ }
-{
-    match charging {
-        Charging::Charged => Signal::Anc,
-        Charging::Free => Signal::Ann,
+    if free {
+        names::IN_SUBSCRIBER_FREE
+    } else {
+        names::IN_PROCEEDING
     }
 }
 
-fn answer(rec: Record, charging: Charging) -> Outcome
-    ensures { λ r. ⌜ r ≡ onCommand rec (Command.Answer charging) ⌝ }
+fn address_complete(state: u8, flags: u8, t: AddressType, free: bool) -> u64
+    ensures { λ r. ⌜ r ≡ commandWay state flags (Command.AddressComplete t free) ⌝ }
 {
-    let signal = answer_signal(charging);
-    rows::rows1(
-        rec,
-        Row(7, 8, true, One(signal), Record { state: 9, ..rec }, 0),
-        5,
+    let new = proceeding(free);
+    within(
+        state,
+        flags,
+        names::IN_SEIZED,
+        names::IN_SEIZED,
+        names::ACM,
+        new,
+        names::IND_NOTHING,
+        names::COMMAND_NOT_ALLOWED,
     )
 }
 
-fn clear_back(rec: Record) -> Outcome
-    ensures { λ r. ⌜ r ≡ onCommand rec Command.ClearBack ⌝ }
+fn answer_heading(charging: Charging) -> u8
+    ensures { λ r. ⌜ r ≡ headingOf (answerSignal charging) ⌝ }
 {
-    rows::rows1(
-        rec,
-        Row(9, 9, true, One(Cbk), Record { state: 10, ..rec }, 0),
-        5,
+    match charging {
+        Charging::Charged => names::ANC,
+        Charging::Free => names::ANN,
+    }
+}
+
+fn answer(state: u8, flags: u8, charging: Charging) -> u64
+    ensures { λ r. ⌜ r ≡ commandWay state flags (Command.Answer charging) ⌝ }
+{
+    let heading = answer_heading(charging);
+    within(
+        state,
+        flags,
+        names::IN_PROCEEDING,
+        names::IN_SUBSCRIBER_FREE,
+        heading,
+        names::IN_ANSWERED,
+        names::IND_NOTHING,
+        names::COMMAND_NOT_ALLOWED,
     )
 }
 
-fn re_answer(rec: Record) -> Outcome
-    ensures { λ r. ⌜ r ≡ onCommand rec Command.ReAnswer ⌝ }
+fn clear_back(state: u8, flags: u8) -> u64
+    ensures { λ r. ⌜ r ≡ commandWay state flags Command.ClearBack ⌝ }
 {
-    rows::rows1(
-        rec,
-        Row(10, 10, true, One(Ran), Record { state: 9, ..rec }, 0),
-        5,
+    within(
+        state,
+        flags,
+        names::IN_ANSWERED,
+        names::IN_ANSWERED,
+        names::CBK,
+        names::IN_HUNG_UP,
+        names::IND_NOTHING,
+        names::COMMAND_NOT_ALLOWED,
+    )
+}
+
+fn re_answer(state: u8, flags: u8) -> u64
+    ensures { λ r. ⌜ r ≡ commandWay state flags Command.ReAnswer ⌝ }
+{
+    within(
+        state,
+        flags,
+        names::IN_HUNG_UP,
+        names::IN_HUNG_UP,
+        names::RAN,
+        names::IN_ANSWERED,
+        names::IND_NOTHING,
+        names::COMMAND_NOT_ALLOWED,
     )
 }
 
@@ -156,149 +157,189 @@ fn late(f: Failure) -> bool
     }
 }
 
-fn fail_call(rec: Record, f: Failure) -> Outcome
-    ensures { λ r. ⌜ r ≡ onCommand rec (Command.FailCall f) ⌝ }
+// The last state in which a failure may be sent: 7 for the late ones, else 6.
+fn last_state(f: Failure) -> u8
+    ensures { λ r. ⌜ r ≡ cond (late f) 7 6 ⌝ }
 {
-    let failed = Record { state: 11, ..rec };
-    rows::rows2(
-        rec,
-        Row(6, 6, true, One(Fail(f)), failed, 0),
-        Row(7, 7, late(f), One(Fail(f)), failed, 0),
-        5,
-    )
-}
-
-fn block(rec: Record) -> Outcome
-    ensures { λ r. ⌜ r ≡ onCommand rec Command.Block ⌝ }
-{
-    let blocked = Record {
-        own: true,
-        bla: true,
-        uba: false,
-        ..rec
-    };
-    rows::rows1(rec, Row(0, 11, !rec.own, One(Blo), blocked, 0), 5)
-}
-
-fn unblock(rec: Record) -> Outcome
-    ensures { λ r. ⌜ r ≡ onCommand rec Command.Unblock ⌝ }
-{
-    let unblocked = Record {
-        own: false,
-        bla: false,
-        uba: true,
-        ..rec
-    };
-    rows::rows1(rec, Row(0, 12, rec.own, One(Ubl), unblocked, 0), 5)
-}
-
-fn restart(rec: Record) -> Outcome
-    ensures { λ r. ⌜ r ≡ onCommand rec Command.Restart ⌝ }
-{
-    rows::rows1(rec, Row(0, 12, true, One(Rsc), RESTARTED, 0), 5)
-}
-
-pub fn on_command(rec: Record, k: Command) -> Outcome
-    ensures { λ r. ⌜ r ≡ onCommand rec k ⌝ }
-{
-    match k {
-        Command::Seize => seize(rec),
-        Command::Release => release(rec),
-        Command::AddressComplete(t, free) => address_complete(rec, t, free),
-        Command::Answer(charging) => answer(rec, charging),
-        Command::ClearBack => clear_back(rec),
-        Command::ReAnswer => re_answer(rec),
-        Command::FailCall(f) => fail_call(rec, f),
-        Command::Block => block(rec),
-        Command::Unblock => unblock(rec),
-        Command::Restart => restart(rec),
+    if late(f) {
+        names::IN_PROCEEDING
+    } else {
+        names::IN_SEIZED
     }
 }
 
-fn address_wait(rec: Record) -> Outcome
-    ensures { λ r. ⌜ r ≡ onTimer rec Timer.AddressWait ⌝ }
+fn fail_call(state: u8, flags: u8, f: Failure) -> u64
+    ensures { λ r. ⌜ r ≡ commandWay state flags (Command.FailCall f) ⌝ }
 {
-    rows::rows1(
-        rec,
-        Row(1, 1, true, One(Clf), Record { state: 5, ..rec }, 10),
-        6,
+    let heading = codes::failure_heading(f);
+    let last = last_state(f);
+    within(
+        state,
+        flags,
+        names::IN_SEIZED,
+        last,
+        heading,
+        names::IN_FAILED,
+        names::IND_NOTHING,
+        names::COMMAND_NOT_ALLOWED,
     )
 }
 
-fn answer_wait(rec: Record) -> Outcome
-    ensures { λ r. ⌜ r ≡ onTimer rec Timer.AnswerWait ⌝ }
+fn block(state: u8, flags: u8) -> u64
+    ensures { λ r. ⌜ r ≡ commandWay state flags Command.Block ⌝ }
 {
-    let released = Record { state: 5, ..rec };
-    rows::rows2(
-        rec,
-        Row(2, 2, true, One(Clf), released, 10),
-        Row(4, 4, true, One(Clf), released, 10),
-        6,
+    if circuit::either(flags % 2 == 1, state == names::AWAITING_RESET) {
+        answers::refused(names::COMMAND_NOT_ALLOWED, state, flags)
+    } else {
+        answers::sent(names::BLO, state, marks::blocked(flags), names::IND_NOTHING)
+    }
+}
+
+fn unblock(state: u8, flags: u8) -> u64
+    ensures { λ r. ⌜ r ≡ commandWay state flags Command.Unblock ⌝ }
+{
+    if flags % 2 == 1 {
+        answers::sent(
+            names::UBL,
+            state,
+            marks::unblocked(flags),
+            names::IND_NOTHING,
+        )
+    } else {
+        answers::refused(names::COMMAND_NOT_ALLOWED, state, flags)
+    }
+}
+
+fn restart() -> u64
+    ensures { λ r. ⌜ r ≡ word 0 0 12 0 0x77 0 ⌝ }
+{
+    answers::sent(
+        names::RSC,
+        names::AWAITING_RESET,
+        marks::NONE,
+        names::IND_NOTHING,
     )
 }
 
-fn incoming_hang_up(rec: Record) -> Outcome
-    ensures { λ r. ⌜ r ≡ onTimer rec Timer.IncomingHangUp ⌝ }
+pub fn on_command(state: u8, flags: u8, k: Command) -> u64
+    ensures { λ r. ⌜ r ≡ commandWay state flags k ⌝ }
 {
-    rows::rows1(
-        rec,
-        Row(
-            10,
-            10,
-            true,
-            One(Fail(Failure::Cfl)),
-            Record { state: 11, ..rec },
-            0,
-        ),
-        6,
+    match k {
+        Command::Seize => seize(state, flags),
+        Command::Release => release(state, flags),
+        Command::AddressComplete(t, free) => address_complete(state, flags, t, free),
+        Command::Answer(charging) => answer(state, flags, charging),
+        Command::ClearBack => clear_back(state, flags),
+        Command::ReAnswer => re_answer(state, flags),
+        Command::FailCall(f) => fail_call(state, flags, f),
+        Command::Block => block(state, flags),
+        Command::Unblock => unblock(state, flags),
+        Command::Restart => restart(),
+    }
+}
+
+fn address_wait(state: u8, flags: u8) -> u64
+    ensures { λ r. ⌜ r ≡ timerWay state flags Timer.AddressWait ⌝ }
+{
+    within(
+        state,
+        flags,
+        names::OUT_SEIZED,
+        names::OUT_SEIZED,
+        names::CLF,
+        names::AWAITING_RELEASE_GUARD,
+        names::IND_CALL_FAILED,
+        names::TIMER_NOT_RUNNING,
     )
 }
 
-fn repeat(rec: Record) -> Outcome
-    ensures { λ r. ⌜ r ≡ onTimer rec Timer.Repeat ⌝ }
+fn answer_wait(state: u8, flags: u8) -> u64
+    ensures { λ r. ⌜ r ≡ timerWay state flags Timer.AnswerWait ⌝ }
 {
-    rows::rows3(
-        rec,
-        Row(5, 5, true, One(Clf), rec, 0),
-        Row(11, 11, true, One(Fail(Failure::Cfl)), rec, 0),
-        Row(12, 12, true, One(Rsc), rec, 0),
-        6,
+    if circuit::either(state == names::OUT_PROCEEDING, state == names::OUT_HUNG_UP) {
+        answers::sent(
+            names::CLF,
+            names::AWAITING_RELEASE_GUARD,
+            flags,
+            names::IND_CALL_FAILED,
+        )
+    } else {
+        answers::refused(names::TIMER_NOT_RUNNING, state, flags)
+    }
+}
+
+fn incoming_hang_up(state: u8, flags: u8) -> u64
+    ensures { λ r. ⌜ r ≡ timerWay state flags Timer.IncomingHangUp ⌝ }
+{
+    within(
+        state,
+        flags,
+        names::IN_HUNG_UP,
+        names::IN_HUNG_UP,
+        names::CFL,
+        names::IN_FAILED,
+        names::IND_NOTHING,
+        names::TIMER_NOT_RUNNING,
     )
 }
 
-fn one_minute(rec: Record) -> Outcome
-    ensures { λ r. ⌜ r ≡ onTimer rec Timer.OneMinute ⌝ }
+fn repeat(state: u8, flags: u8) -> u64
+    ensures { λ r. ⌜ r ≡ timerWay state flags Timer.Repeat ⌝ }
 {
-    let reset = RESTARTED;
-    rows::rows3(
-        rec,
-        Row(5, 5, true, One(Rsc), reset, 8),
-        Row(11, 11, true, One(Rsc), reset, 8),
-        Row(12, 12, true, One(Rsc), rec, 8),
-        6,
-    )
+    if state == names::AWAITING_RELEASE_GUARD {
+        return answers::sent(names::CLF, state, flags, names::IND_NOTHING);
+    }
+    if state == names::IN_FAILED {
+        return answers::sent(names::CFL, state, flags, names::IND_NOTHING);
+    }
+    if state == names::AWAITING_RESET {
+        return answers::sent(names::RSC, state, flags, names::IND_NOTHING);
+    }
+    answers::refused(names::TIMER_NOT_RUNNING, state, flags)
 }
 
-fn block_repeat(rec: Record) -> Outcome
-    ensures { λ r. ⌜ r ≡ onTimer rec Timer.BlockRepeat ⌝ }
+// In 5 and 11 what a restart does, in 12 RSC with the record unchanged.
+fn one_minute(state: u8, flags: u8) -> u64
+    ensures { λ r. ⌜ r ≡ timerWay state flags Timer.OneMinute ⌝ }
 {
-    rows::rows2(
-        rec,
-        Row(0, 12, rec.bla, One(Blo), rec, 0),
-        Row(0, 12, rec.uba, One(Ubl), rec, 0),
-        6,
-    )
+    if circuit::either(
+        state == names::AWAITING_RELEASE_GUARD,
+        state == names::IN_FAILED,
+    ) {
+        return answers::sent(
+            names::RSC,
+            names::AWAITING_RESET,
+            marks::NONE,
+            names::IND_ALERT_MAINTENANCE,
+        );
+    }
+    if state == names::AWAITING_RESET {
+        return answers::sent(names::RSC, state, flags, names::IND_ALERT_MAINTENANCE);
+    }
+    answers::refused(names::TIMER_NOT_RUNNING, state, flags)
 }
 
-pub fn on_timer(rec: Record, t: Timer) -> Outcome
-    ensures { λ r. ⌜ r ≡ onTimer rec t ⌝ }
+fn block_repeat(state: u8, flags: u8) -> u64
+    ensures { λ r. ⌜ r ≡ timerWay state flags Timer.BlockRepeat ⌝ }
+{
+    if marks::bla(flags) {
+        return answers::sent(names::BLO, state, flags, names::IND_NOTHING);
+    }
+    if marks::uba(flags) {
+        return answers::sent(names::UBL, state, flags, names::IND_NOTHING);
+    }
+    answers::refused(names::TIMER_NOT_RUNNING, state, flags)
+}
+
+pub fn on_timer(state: u8, flags: u8, t: Timer) -> u64
+    ensures { λ r. ⌜ r ≡ timerWay state flags t ⌝ }
 {
     match t {
-        Timer::AddressWait => address_wait(rec),
-        Timer::AnswerWait => answer_wait(rec),
-        Timer::IncomingHangUp => incoming_hang_up(rec),
-        Timer::Repeat => repeat(rec),
-        Timer::OneMinute => one_minute(rec),
-        Timer::BlockRepeat => block_repeat(rec),
+        Timer::AddressWait => address_wait(state, flags),
+        Timer::AnswerWait => answer_wait(state, flags),
+        Timer::IncomingHangUp => incoming_hang_up(state, flags),
+        Timer::Repeat => repeat(state, flags),
+        Timer::OneMinute => one_minute(state, flags),
+        Timer::BlockRepeat => block_repeat(state, flags),
     }
 }

@@ -4,14 +4,14 @@ use borrow.Author.Needs.{needs}
 use Rattle.commands.proofs.answer.Statement.{statement}
 use Rattle.commands.proofs.answer.Tie as tie
 
-answer-signal-requires : tie.Need-answer-signal-requires
-answer-signal-requires c κs = search needs
+answer-heading-requires : tie.Need-answer-heading-requires
+answer-heading-requires c κs = search needs
 
-rows1-requires : tie.Need-rows1-requires
-rows1-requires c κs = search needs
+within-requires : tie.Need-within-requires
+within-requires c κs = search needs
 
 returns : tie.Need-returns
-returns c = rw (c .rows1 .ensures, c .before .answer-signal .ensures)
+returns c = rw (c .within .ensures, c .before .answer-heading .ensures)
 
 pub answer-spec : {M : Type 1} → statement M
-answer-spec = tie.close (tie.spec answer-signal-requires rows1-requires returns)
+answer-spec = tie.close (tie.spec answer-heading-requires within-requires returns)

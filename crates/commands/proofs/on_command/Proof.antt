@@ -92,7 +92,7 @@ returns-9 : tie.Need-returns-9
 returns-9 c = rw (c .unblock .ensures, c .before .enum-told6 .given .1)
 
 returns-10 : tie.Need-returns-10
-returns-10 c = rw (c .restart .ensures, c .before .enum-told7 .given .1)
+returns-10 c = search needs
 
 pub on-command-spec : {M : Type 1} → statement M
 on-command-spec =

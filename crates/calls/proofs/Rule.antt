@@ -1,0 +1,80 @@
+-- The table's rule, over all of its entries: each number is one of those that exist, and means what document 01's table says at its place.
+-- Assumes nothing.
+use mathlib.Core.Path.{_≡_, refl, ap, _∙_, sym}
+use mathlib.Core.Bool.{Bool, true, false, cond, _&&_}
+use mathlib.Core.List.{List}
+use Prim.Native.Nat.{ℕ, _+_, _*_, _/_, _%_, _<_, _≤_}
+use native.Mathlib.Omega.{arith}
+use lib.Dec.{T, eqb, eqb→eq}
+use lib.ListN.{getD}
+use Rattle.circuit.specs.declared.Signal.{Signal}
+use Rattle.circuit.specs.declared.Signal.the-variants.{Iam, Acm, Anc, Ann, Cbk, Clf, Ran, Rlg, Blo, Bla, Ubl, Uba, Rsc, Fail}
+use Rattle.circuit.specs.Rows.{first}
+use Rattle.circuit.specs.Every.{eachBelow}
+use Rattle.circuit.proofs.Every.{left, right, atBelow, eachBool, atBool}
+use Rattle.calls.specs.declared.Call.{Call}
+use Rattle.calls.proofs.Numbers.{numbers}
+use Rattle.calls.specs.Calls.{call, meaning, isNumber, columns, column, place, callAt, onCall}
+
+abbrev same : Call → Call → Bool
+same a b = eqb (a .state) (b .state) && (eqb (a .sends) (b .sends) && eqb (a .ind) (b .ind))
+
+alike : {s t x y i j : ℕ} → s ≡ t → x ≡ y → i ≡ j → call s x i ≡ call t y j
+alike p q r = rw (p, q, r)
+
+isSame : (a b : Call) → T (same a b) → a ≡ b
+isSame a b t =
+    alike
+    (eqb→eq (a .state) (b .state) (left (eqb (a .state) (b .state)) _ t))
+    (eqb→eq (a .sends) (b .sends) (left (eqb (a .sends) (b .sends)) _ (right (eqb (a .state) (b .state)) _ t)))
+    (eqb→eq (a .ind) (b .ind) (right (eqb (a .sends) (b .sends)) _ (right (eqb (a .state) (b .state)) _ t)))
+
+abbrev rightAt : ℕ → Bool
+rightAt k = isNumber (getD numbers k 0) && same (meaning (getD numbers k 0)) (callAt k)
+
+-- the test, at all 312 entries
+tested : T (eachBelow 312 rightAt)
+unfolding meaning onCall first
+tested = tt
+
+pub ruled : (k : ℕ) → k < 312 → meaning (getD numbers k 0) ≡ callAt k
+ruled k h = isSame (meaning (getD numbers k 0)) (callAt k) (right (isNumber (getD numbers k 0)) _ (atBelow 312 rightAt tested k h))
+
+-- signals that share a column do the same to a call
+abbrev shares : Signal → Bool
+shares sig = eachBelow 13 (λ s. eachBool (λ c. same (onCall c s (getD columns (column sig) Iam)) (onCall c s sig)))
+
+shared : (sig : Signal) → T (shares sig)
+unfolding onCall first
+shared Iam = tt
+shared (Acm octet) = tt
+shared Anc = tt
+shared Ann = tt
+shared Cbk = tt
+shared Clf = tt
+shared Ran = tt
+shared Rlg = tt
+shared Blo = tt
+shared Bla = tt
+shared Ubl = tt
+shared Uba = tt
+shared Rsc = tt
+shared (Fail f) = tt
+
+roleAt : (n : ℕ) (c : Bool) → eqb ((n * 2 + cond c 0 1) % 2) 0 ≡ c
+roleAt n true = let e : (n * 2 + 0) % 2 ≡ 0 = omega arith in rw e
+roleAt n false = let e : (n * 2 + 1) % 2 ≡ 1 = omega arith in rw e
+
+low : (c : Bool) → cond c 0 1 < 2
+low true = omega arith
+low false = omega arith
+
+-- a signal's place is where its entry stands
+pub atPlace : (c : Bool) (s : ℕ) (sig : Signal) → s ≤ 12 → callAt (place c s sig) ≡ onCall c s sig
+atPlace c s sig h =
+    let b : cond c 0 1 < 2 = low c in
+    let role : (column sig * 26 + s * 2 + cond c 0 1) ≡ ((column sig * 13 + s) * 2 + cond c 0 1) = omega arith in
+    let state : (column sig * 26 + s * 2 + cond c 0 1) % 26 / 2 ≡ s = omega arith in
+    let signal : (column sig * 26 + s * 2 + cond c 0 1) / 26 ≡ column sig = omega arith in
+    rw (state, signal) (rw role (rw (roleAt (column sig * 13 + s) c)
+    (isSame _ _ (atBool (λ c. same (onCall c s (getD columns (column sig) Iam)) (onCall c s sig)) (atBelow 13 (λ s. eachBool (λ c. same (onCall c s (getD columns (column sig) Iam)) (onCall c s sig))) (shared sig) s (omega arith)) c))))
