@@ -1,22 +1,22 @@
 -- Laws of where things lie in a lent table: what is put is read back, and every other octet stays. All above goes by these.
 -- Assumes nothing.
-use mathlib.Core.Path.{_≡_, refl, _∙_}
-use mathlib.Core.Bool.{Bool, true, false, cond, _&&_, _||_}
+use mathlib.Core.Path.{_≡_, refl, _∙_, subst}
+use mathlib.Core.Bool.{Bool, true, false, not, cond, _&&_, _||_}
 use mathlib.Core.List.{List}
-use Prim.Native.Nat.{ℕ, _+_, _*_, _-_, _/_, _%_, _^_, _<_, _≤_}
+use Prim.Native.Nat.{ℕ, zero, suc, _+_, _*_, _-_, _/_, _%_, _^_, _<_, _≤_}
 use native.Mathlib.Omega.{arith}
 use native.Mathlib.Numerals.{unary-clauses}
-use lib.Dec.{eqb, eqb→eq, ltb}
-use borrow.Author.Tests.{le-leb, lt-leb}
+use lib.Dec.{T, eqb, eqb→eq, leb, ltb}
+use borrow.Author.Tests.{le-leb, lt-leb, lt-ltb, le-ltb, leb-true, leb-false, eqb-true, ne-eqb}
 use lib.ListN.{length, getD, set, length-set}
 use lib.Seq.{getD-set-same, getD-set-other, lt-length-set}
 use Rattle.circuit.specs.declared.Record.{Record}
-use Rattle.circuit.specs.Records.{rec, flagsAllowed, onlyFar}
+use Rattle.circuit.specs.Records.{rec, valid, flagsAllowed, onlyFar}
+use Rattle.marks.specs.Marks.{bit, legal, legalInReset}
 use Rattle.circuit.proofs.Every.{atBelow, alike, alikeSame}
 use Rattle.words.proofs.Words as words
 use Rattle.words.specs.Words.{putWord, largest}
-use Rattle.layout.specs.Layout.{counterOctets, recordOctets, tableOctets, recordsIn, counterIn, stateAt, flagsAt, rankAt, bit, flagsOf, recordOf, recordAt, allowed, stored, storedAt, put, putCounter, putRank, ranked, idle}
-use Rattle.layout.specs.Way.{allowedIn}
+use Rattle.layout.specs.Layout.{counterOctets, recordOctets, tableOctets, recordsIn, badLength, counterIn, stateAt, flagsAt, rankAt, flagsOf, recordOf, recordAt, allowed, stored, storedAt, putOctets, put, putCounter, putRank, ranked, idle}
 
 -- a circuit's octets one by one, as the program reads them
 module _ (table : List ℕ) (i at : ℕ) (place : at ≡ tableOctets i) where
@@ -72,19 +72,34 @@ recordBack r = go (r .own) (r .far) (r .bla) (r .uba)
     go false false false true = refl
     go false false false false = refl
 
-abbrev listed : (flags set : ℕ) → Bool
-listed f set = eqb (set / 2 ^ f % 2) 1
+-- which octets are a record: below 12 the marks alone decide, in 12 what is legal there, above there is no state
+onceMore : (a b : Bool) → a ≡ (true && (a && (true || b)))
+onceMore true b = refl
+onceMore false b = refl
 
-pub allowedListed : (s f : ℕ) → f ≤ 15 → s ≤ 12 → listed f (allowedIn s) ≡ allowed s f
+pub allowedBelow : (s f : ℕ) → s < 12 → legal f ≡ allowed s f
 unfolding recordOf
-allowedListed s f low h = simp (le-leb f 15 low, le-leb s 12 h) (go (ltb s 12))
+allowedBelow s f h = rw (le-leb s 12 (omega arith), lt-ltb s 12 h) (go (leb f 15))
   where
-    right : (b : Bool) (f : ℕ) → Bool
-    right b f = alike (listed f (cond b 0x05af 0x0005)) (flagsAllowed (recordOf s f) && (b || onlyFar (recordOf s f)))
+    go : (b : Bool) → (b && flagsAllowed (recordOf s f)) ≡ (b && (true && (flagsAllowed (recordOf s f) && (true || onlyFar (recordOf s f)))))
+    go true = onceMore (flagsAllowed (recordOf s f)) (onlyFar (recordOf s f))
+    go false = refl
 
-    go : (b : Bool) → listed f (cond b 0x05af 0x0005) ≡ (flagsAllowed (recordOf s f) && (b || onlyFar (recordOf s f)))
-    go true = alikeSame _ _ (atBelow 16 (right true) tt f (omega arith))
-    go false = alikeSame _ _ (atBelow 16 (right false) tt f (omega arith))
+pub allowedInReset : (s f : ℕ) → s ≡ 12 → legalInReset f ≡ allowed s f
+unfolding recordOf
+allowedInReset s f e = rw e (go (leb f 15) refl)
+  where
+    go : (b : Bool) → leb f 15 ≡ b → legalInReset f ≡ (b && valid (recordOf 12 f))
+    go true l = alikeSame _ _ (atBelow 16 (λ f. alike (legalInReset f) (valid (recordOf 12 f))) tt f (let h : f ≤ 15 = leb-true f 15 l in omega arith))
+    go false l = let h : 15 < f = leb-false f 15 l in rw (ne-eqb f 0 (λ z. omega arith), ne-eqb f 2 (λ z. omega arith)) refl
+
+pub allowedAbove : (s f : ℕ) → 12 < s → allowed s f ≡ false
+unfolding recordOf
+allowedAbove s f h = rw (lt-leb s 12 h) (go (leb f 15))
+  where
+    go : (b : Bool) → (b && false) ≡ false
+    go true = refl
+    go false = refl
 
 -- a circuit of the table has its octets there
 inside : (octets i : ℕ) → i < recordsIn octets → tableOctets i + recordOctets ≤ octets
@@ -103,6 +118,68 @@ pub shortRecords : (octets : ℕ) → octets < counterOctets → recordsIn octet
 unfolding recordsIn
 shortRecords octets h = let none : octets - counterOctets ≡ 0 = omega arith in rw none
 
+-- lengths that are no group's, as the program tells them
+noneIn : (k : ℕ) → k ≡ 0 → (eqb k 0 || ltb 4096 k) ≡ true
+noneIn k e = rw e refl
+
+manyIn : (k : ℕ) → 4096 < k → (eqb k 0 || ltb 4096 k) ≡ true
+manyIn k h = rw (ne-eqb k 0 (λ z. omega arith), lt-ltb 4096 k h) refl
+
+someIn : (k : ℕ) → 0 < k → k ≤ 4096 → (eqb k 0 || ltb 4096 k) ≡ false
+someIn k h l = rw (ne-eqb k 0 (λ z. omega arith), le-ltb 4096 k l) refl
+
+module _ (octets : ℕ) where
+  abbrev held : Bool → ℕ
+  held whole = cond whole ((octets - counterOctets) / recordOctets) 0
+
+  pub tooShort : octets < 18 → badLength octets ≡ true
+  unfolding recordsIn
+  tooShort h = go (eqb ((octets - counterOctets) % recordOctets) 0)
+    where
+      go : (b : Bool) → (eqb (held b) 0 || ltb 4096 (held b)) ≡ true
+      go true = noneIn ((octets - counterOctets) / recordOctets) (omega arith)
+      go false = refl
+
+  pub tooLong : 40968 < octets → badLength octets ≡ true
+  unfolding recordsIn
+  tooLong h = go (eqb ((octets - counterOctets) % recordOctets) 0) refl
+    where
+      go : (b : Bool) → eqb ((octets - counterOctets) % recordOctets) 0 ≡ b → (eqb (held b) 0 || ltb 4096 (held b)) ≡ true
+      go true e = let whole : (octets - counterOctets) % recordOctets ≡ 0 = eqb-true _ _ e in manyIn ((octets - counterOctets) / recordOctets) (omega arith)
+      go false e = refl
+
+  pub byRest : 18 ≤ octets → octets ≤ 40968 → badLength octets ≡ not (eqb ((octets - counterOctets) % recordOctets) 0)
+  unfolding recordsIn
+  byRest l h = go (eqb ((octets - counterOctets) % recordOctets) 0) refl
+    where
+      go : (b : Bool) → eqb ((octets - counterOctets) % recordOctets) 0 ≡ b → (eqb (held b) 0 || ltb 4096 (held b)) ≡ not b
+      go true e = let whole : (octets - counterOctets) % recordOctets ≡ 0 = eqb-true _ _ e in someIn ((octets - counterOctets) / recordOctets) (omega arith) (omega arith)
+      go false e = refl
+
+-- a circuit of a group lies in its table whole, and no other does
+pub endsBefore : (octets i : ℕ) → badLength octets ≡ false → ltb octets (tableOctets i + recordOctets) ≡ leb (recordsIn octets) i
+unfolding recordsIn
+endsBefore octets i good = go (eqb ((octets - counterOctets) % recordOctets) 0) refl good
+  where
+    go : (b : Bool) → eqb ((octets - counterOctets) % recordOctets) 0 ≡ b → (eqb (held octets b) 0 || ltb 4096 (held octets b)) ≡ false
+        → ltb octets (tableOctets i + recordOctets) ≡ leb (held octets b) i
+    go true e g = go₂ (leb ((octets - counterOctets) / recordOctets) i) refl
+      where
+        whole : (octets - counterOctets) % recordOctets ≡ 0
+        whole = eqb-true _ _ e
+
+        some : 0 < (octets - counterOctets) / recordOctets
+        some = go₃ ((octets - counterOctets) / recordOctets) g
+          where
+            go₃ : (k : ℕ) → (eqb k 0 || ltb 4096 k) ≡ false → 0 < k
+            go₃ zero g = absurd (subst T g tt)
+            go₃ (suc k) g = omega arith
+
+        go₂ : (a : Bool) → leb ((octets - counterOctets) / recordOctets) i ≡ a → ltb octets (tableOctets i + recordOctets) ≡ a
+        go₂ true l = let h : (octets - counterOctets) / recordOctets ≤ i = leb-true _ _ l in lt-ltb octets (tableOctets i + recordOctets) (omega (arith, some, whole))
+        go₂ false l = let h : i < (octets - counterOctets) / recordOctets = leb-false _ _ l in le-ltb octets (tableOctets i + recordOctets) (omega (arith, some, whole))
+    go false e g = absurd (subst T g tt)
+
 -- so many octets hold so many records
 pub recordsBack : (circuits : ℕ) → recordsIn (tableOctets circuits) ≡ circuits
 unfolding recordsIn
@@ -114,7 +191,7 @@ recordsBack circuits =
 
 -- lengths stay
 pub putLength : (table : List ℕ) (i : ℕ) (r : Record) → length (put table i r) ≡ length table
-unfolding put
+unfolding putOctets
 putLength table i r = simp length-set
 
 pub rankedLength : (table : List ℕ) (i n : ℕ) → length (ranked table i n) ≡ length table
@@ -124,13 +201,13 @@ rankedLength table i n = words.putLength 8 (putWord table 0 n) (tableOctets i + 
 -- what is put is read back
 module _ (table : List ℕ) (i : ℕ) (r : Record) (h : i < recordsIn (length table)) where
   pub putState : stateAt (put table i r) i ≡ r .state
-  unfolding stateAt put
+  unfolding stateAt putOctets
   putState =
       let there : tableOctets i + recordOctets ≤ length table = inside (length table) i h in
       rw (getD-set-other (set table (tableOctets i) (r .state)) (tableOctets i + 1) (tableOctets i) (flagsOf r) 0 (λ e. omega arith), getD-set-same table (tableOctets i) (r .state) 0 (omega arith))
 
   pub putFlags : flagsAt (put table i r) i ≡ flagsOf r
-  unfolding flagsAt put
+  unfolding flagsAt putOctets
   putFlags =
       let there : tableOctets i + recordOctets ≤ length table = inside (length table) i h in
       getD-set-same (set table (tableOctets i) (r .state)) (tableOctets i + 1) (flagsOf r) 0 (lt-length-set table (tableOctets i) (r .state) (omega arith))
@@ -140,7 +217,7 @@ module _ (table : List ℕ) (i : ℕ) (r : Record) (h : i < recordsIn (length ta
 
 -- putting a record leaves every octet but the circuit's first two
 putOther : (table : List ℕ) (i : ℕ) (r : Record) (k : ℕ) → (k ≡ tableOctets i → ⊥) → (k ≡ tableOctets i + 1 → ⊥) → getD (put table i r) k 0 ≡ getD table k 0
-unfolding put
+unfolding putOctets
 putOther table i r k first second =
     getD-set-other (set table (tableOctets i) (r .state)) (tableOctets i + 1) k (flagsOf r) 0 second
     ∙ getD-set-other table (tableOctets i) k (r .state) 0 first

@@ -2,13 +2,14 @@
 -- First the counter of releases, a word of eight octets; then a record to each circuit, ten octets: the state, the flags, and the release rank,
 -- a word. Record i is circuit i, and a table of zeros is an idle group.
 -- Assumes nothing.
-use mathlib.Core.Bool.{Bool, cond, _&&_}
+use mathlib.Core.Bool.{Bool, cond, _&&_, _||_}
 use mathlib.Core.List.{List}
 use Prim.Native.Nat.{ℕ, _+_, _*_, _-_, _/_, _%_}
-use lib.Dec.{eqb, leb}
+use lib.Dec.{eqb, leb, ltb}
 use lib.ListN.{length, getD, set, replicate}
 use Rattle.circuit.specs.declared.Record.{Record}
 use Rattle.circuit.specs.Records.{rec, valid}
+use Rattle.marks.specs.Marks.{flags, own, far, bla, uba}
 use Rattle.layout.specs.declared.Stored.{Stored}
 use Rattle.words.specs.Words.{word, putWord}
 
@@ -26,6 +27,10 @@ tableOctets circuits = counterOctets + recordOctets * circuits
 unfoldable pub recordsIn : ℕ → ℕ
 recordsIn octets = cond (eqb ((octets - counterOctets) % recordOctets) 0) ((octets - counterOctets) / recordOctets) 0
 
+-- none or more than 4096 of them are no group's (refusal 1)
+abbrev pub badLength : ℕ → Bool
+badLength octets = eqb (recordsIn octets) 0 || ltb 4096 (recordsIn octets)
+
 unfoldable pub counterIn : List ℕ → ℕ
 counterIn table = word table 0
 
@@ -39,15 +44,12 @@ flagsAt table i = getD table (tableOctets i + 1) 0
 unfoldable pub rankAt : List ℕ → ℕ → ℕ
 rankAt table i = word table (tableOctets i + 2)
 
--- flags: 1 own block, 2 far block, 4 awaiting BLA, 8 awaiting UBA
-abbrev pub bit : Bool → ℕ → ℕ
-bit set worth = cond set worth 0
-
+-- a record and its two octets: the state, and the flags 1 own block, 2 far block, 4 awaiting BLA, 8 awaiting UBA
 unfoldable pub flagsOf : Record → ℕ
-flagsOf r = bit (r .own) 1 + bit (r .far) 2 + bit (r .bla) 4 + bit (r .uba) 8
+flagsOf r = flags (r .own) (r .far) (r .bla) (r .uba)
 
 unfoldable pub recordOf : (state flags : ℕ) → Record
-recordOf s f = rec s (eqb (f % 2) 1) (eqb (f / 2 % 2) 1) (eqb (f / 4 % 2) 1) (eqb (f / 8 % 2) 1)
+recordOf s f = rec s (own f) (far f) (bla f) (uba f)
 
 abbrev pub recordAt : List ℕ → ℕ → Record
 recordAt table i = recordOf (stateAt table i) (flagsAt table i)
@@ -67,8 +69,11 @@ abbrev pub storedAt : List ℕ → ℕ → Stored
 storedAt table i = cond (leb (tableOctets i + recordOctets) (length table)) (stored (stateAt table i) (flagsAt table i) (rankAt table i)) (stored 0 0 0)
 
 -- the table with a record put at circuit i, which keeps its rank
-unfoldable pub put : List ℕ → ℕ → Record → List ℕ
-put table i r = set (set table (tableOctets i) (r .state)) (tableOctets i + 1) (flagsOf r)
+unfoldable pub putOctets : List ℕ → ℕ → (state flags : ℕ) → List ℕ
+putOctets table i s f = set (set table (tableOctets i) s) (tableOctets i + 1) f
+
+abbrev pub put : List ℕ → ℕ → Record → List ℕ
+put table i r = putOctets table i (r .state) (flagsOf r)
 
 -- the table with its counter at n, and with the rank n at circuit i
 unfoldable pub putCounter : List ℕ → (n : ℕ) → List ℕ

@@ -1,21 +1,17 @@
 // Where things lie in a lent table of octets: first the counter of releases, eight octets; then a record to each circuit, ten octets each: the
 // state, the flags and the release rank of eight. Record i is circuit i; counter and ranks have their lowest octet first.
 use circuit::Cic;
-use circuit::Record;
 ghost use mathlib.Core.Path.{_≡_};
-ghost use Prim.Native.Nat.{_≤_};
-ghost use Rattle.layout.specs.Layout.{tableOctets, recordsIn, counterIn, stateAt, flagsAt, bit, flagsOf, recordOf, allowed, storedAt, put, putCounter, putRank};
-ghost use Rattle.layout.specs.Way.{allowedIn};
+ghost use Prim.Native.Nat.{_+_, _≤_};
+ghost use lib.Dec.{ltb};
+ghost use Rattle.layout.specs.Layout.{tableOctets, recordsIn, badLength, counterIn, allowed, storedAt, putOctets, putCounter, putRank};
 
 const COUNTER_OCTETS: usize = 8;
 
 const RECORD_OCTETS: usize = 10;
 
-// The flags that are allowed, 0, 1, 2, 3, 5, 7, 8 and 10, as a set: flags f are in it where the bit worth 2^f is set.
-const ALLOWED: u32 = 0x05af;
-
-// Those that are allowed in state 12: 0 and 2.
-const ALLOWED_IN_RESET: u32 = 0x0005;
+// The most circuits of a group.
+const CIRCUITS: usize = 4096;
 
 // What stands at a circuit.
 pub struct Stored {
@@ -47,23 +43,30 @@ pub fn records(octets: usize) -> usize
     }
 }
 
+// Whether a table of this length holds no records or more than a group may have, or is not a counter and whole records.
+pub fn bad_length(octets: usize) -> bool
+    ensures { λ r. ⌜ r ≡ badLength octets ⌝ }
+{
+    if octets < COUNTER_OCTETS + RECORD_OCTETS {
+        return true;
+    }
+    if COUNTER_OCTETS + RECORD_OCTETS * CIRCUITS < octets {
+        return true;
+    }
+    (octets - COUNTER_OCTETS) % RECORD_OCTETS != 0
+}
+
+// Whether a table of this length ends before the circuit's record does.
+pub fn ends_before(octets: usize, cic: Cic) -> bool
+    ensures { λ r. ⌜ r ≡ ltb octets (tableOctets (cic .0) + 10) ⌝ }
+{
+    octets < table_octets(cic.0) + RECORD_OCTETS
+}
+
 pub fn counter_in(table: &[u8]) -> u64
     ensures { λ r. ⌜ r ≡ counterIn (now (table .entry)) ⌝ }
 {
     words::word(table, 0)
-}
-
-// The octets of a circuit.
-pub fn state_at(table: &[u8], cic: Cic) -> u8
-    ensures { λ r. ⌜ r ≡ stateAt (now (table .entry)) (cic .0) ⌝ }
-{
-    words::octet(table, table_octets(cic.0), 0)
-}
-
-pub fn flags_at(table: &[u8], cic: Cic) -> u8
-    ensures { λ r. ⌜ r ≡ flagsAt (now (table .entry)) (cic .0) ⌝ }
-{
-    words::octet(table, table_octets(cic.0), 1)
 }
 
 // All that stands at a circuit, by one look at the table's length.
@@ -95,63 +98,26 @@ pub fn stored_at(table: &[u8], cic: Cic) -> Stored
     }
 }
 
-fn bit(set: bool, worth: u8) -> u8
-    ensures { λ r. ⌜ (r ≡ bit set worth) × (r ≤ worth) ⌝ }
-{
-    if set { worth } else { 0 }
-}
-
-// A record's flags as an octet: 1 own block, 2 far block, 4 awaiting BLA, 8 awaiting UBA.
-pub fn flags_of(rec: Record) -> u8
-    ensures { λ r. ⌜ r ≡ flagsOf rec ⌝ }
-{
-    bit(rec.own, 1) + bit(rec.far, 2) + bit(rec.bla, 4) + bit(rec.uba, 8)
-}
-
-pub fn record_of(state: u8, flags: u8) -> Record
-    ensures { λ r. ⌜ r ≡ recordOf state flags ⌝ }
-{
-    Record {
-        state: state,
-        own: flags % 2 == 1,
-        far: flags / 2 % 2 == 1,
-        bla: flags / 4 % 2 == 1,
-        uba: flags / 8 % 2 == 1,
-    }
-}
-
-// The set of flags that are allowed in a state up to 12.
-fn allowed_in(state: u8) -> u32
-    ensures { λ r. ⌜ r ≡ allowedIn state ⌝ }
-{
-    if state < 12 {
-        ALLOWED
-    } else {
-        ALLOWED_IN_RESET
-    }
-}
-
-// Whether two octets, state and flags, are a record that document 01 allows: refusal 12 is for the others. A set is asked and not each flag, since
-// whole tables are judged by this.
+// Whether two octets, state and flags, are a record that document 01 allows: refusal 12 is for the others.
 pub fn allowed(state: u8, flags: u8) -> bool
     ensures { λ r. ⌜ r ≡ allowed state flags ⌝ }
 {
-    if 15 < flags {
-        return false;
+    if state < names::AWAITING_RESET {
+        return marks::legal(flags);
     }
-    if 12 < state {
-        return false;
+    if state == names::AWAITING_RESET {
+        return marks::legal_in_reset(flags);
     }
-    (allowed_in(state) >> flags) % 2 == 1
+    false
 }
 
-// Puts a record at a circuit, which keeps its rank.
-pub fn put(table: &mut [u8], cic: Cic, rec: Record)
-    ensures { λ r. ⌜ now (table .exit) ≡ put (now (table .entry)) (cic .0) rec ⌝ }
+// Puts a record's two octets at a circuit, which keeps its rank.
+pub fn put(table: &mut [u8], cic: Cic, state: u8, flags: u8)
+    ensures { λ r. ⌜ now (table .exit) ≡ putOctets (now (table .entry)) (cic .0) state flags ⌝ }
 {
     let at = table_octets(cic.0);
-    words::put_octet(table, at, 0, rec.state);
-    words::put_octet(table, at, 1, flags_of(rec));
+    words::put_octet(table, at, 0, state);
+    words::put_octet(table, at, 1, flags);
 }
 
 pub fn put_counter(table: &mut [u8], count: u64)

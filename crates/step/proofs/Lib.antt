@@ -1,3 +1,4 @@
 pub mod Always
 pub mod Refused
 pub mod Erred
+pub mod Tables

@@ -1,3 +1,5 @@
 pub mod Step
 pub mod Refusals
 pub mod Frees
+pub mod Answers
+pub mod Together

@@ -1,8 +1,8 @@
--- `step::by_tables` meets its contract.
+-- `step::on_event` meets its contract.
 -- Assumes nothing.
 use borrow.Author.Needs.{needs}
-use Rattle.step.proofs.by_tables.Statement.{statement}
-use Rattle.step.proofs.by_tables.Tie as tie
+use Rattle.step.proofs.on_event.Statement.{statement}
+use Rattle.step.proofs.on_event.Tie as tie
 
 enum-known-e : tie.Need-enum-known-e
 enum-known-e c = search needs
@@ -31,8 +31,8 @@ returns-2 c = rw (c .on-command .ensures, c .before .before .e2 .given .1)
 returns-3 : tie.Need-returns-3
 returns-3 c = rw (c .on-timer .ensures, c .before .before .e3 .given .1)
 
-pub by-tables-spec : {M : Type 1} → statement M
-by-tables-spec =
+pub on-event-spec : {M : Type 1} → statement M
+on-event-spec =
     tie.close
     (tie.spec
     enum-known-e

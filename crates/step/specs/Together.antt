@@ -1,0 +1,57 @@
+-- Calls and marks put together, on a record of two octets: what the marks send goes out before what the call sends. The contracts of private
+-- functions cite it; no promise leans on it, since `Tables` in proofs/ shows that it comes to document 01's tables.
+-- Assumes nothing.
+use mathlib.Core.Bool.{Bool, true, false, cond, _&&_}
+use Prim.Native.Nat.{ℕ}
+use lib.Dec.{eqb}
+use Rattle.circuit.specs.declared.Signal.{Signal}
+use Rattle.circuit.specs.declared.Signal.the-variants.{Iam, Acm, Anc, Ann, Cbk, Clf, Ran, Rlg, Blo, Bla, Ubl, Uba, Rsc, Fail}
+use Rattle.circuit.specs.declared.Event.{Event}
+use Rattle.circuit.specs.declared.Event.the-variants.{Arrives, Ordered, RunsOut}
+use Rattle.codes.specs.declared.Found.{Found}
+use Rattle.codes.specs.declared.Found.the-variants.{Is, Missing}
+use Rattle.answers.specs.Answers.{word}
+use Rattle.marks.specs.declared.Marked.{Marked}
+use Rattle.marks.specs.Marks.{own, keptOut, onMarks}
+use Rattle.calls.specs.declared.Call.{Call}
+use Rattle.calls.specs.Calls.{onCall}
+use Rattle.commands.specs.Way.{refused, commandWay, timerWay}
+
+abbrev pub isIam : Signal → Bool
+isIam Iam = true
+isIam (Acm octet) = false
+isIam Anc = false
+isIam Ann = false
+isIam Cbk = false
+isIam Clf = false
+isIam Ran = false
+isIam Rlg = false
+isIam Blo = false
+isIam Bla = false
+isIam Ubl = false
+isIam Uba = false
+isIam Rsc = false
+isIam (Fail f) = false
+
+-- the marks keep an IAM out of an idle circuit with own block
+abbrev pub marksPart : (state flags : ℕ) → Signal → Marked
+marksPart s f sig = cond (isIam sig && (eqb s 0 && own f)) (keptOut f) (onMarks f sig)
+
+-- a signal that goes no further than the marks is discarded
+abbrev pub together : (state : ℕ) → Marked → Call → ℕ
+together s m c =
+    cond (m .stops) (word 0 7 s (m .flags) (m .sends) 0)
+    (cond (eqb (m .sends) 0) (word 0 (c .ind) (c .state) (m .flags) (c .sends) 0)
+    (word 0 (c .ind) (c .state) (m .flags) (m .sends) (c .sends)))
+
+abbrev pub signalWay : (c : Bool) → (state flags : ℕ) → Signal → ℕ
+signalWay c s f sig = together s (marksPart s f sig) (onCall c s sig)
+
+abbrev pub eventWay : (c : Bool) → (state flags : ℕ) → Event → ℕ
+eventWay c s f (Arrives sig) = signalWay c s f sig
+eventWay c s f (Ordered k) = commandWay s f k
+eventWay c s f (RunsOut t) = timerWay s f t
+
+abbrev pub foundWay : (c : Bool) → (state flags : ℕ) → Found → ℕ
+foundWay c s f (Is e) = eventWay c s f e
+foundWay c s f Missing = refused 3 s f
