@@ -9,8 +9,11 @@ abbrev pub badCode : ℕ → Bool
 badCode code = ltb 16383 code
 
 -- refusal 1: a point code above 16383, codes equal, or 0 or more than 4096 records
+abbrev pub badCodes : ℕ → ℕ → Bool
+badCodes own far = badCode own || badCode far || eqb own far
+
 abbrev pub badGroup : ℕ → ℕ → ℕ → Bool
-badGroup own far records = badCode own || badCode far || eqb own far || (eqb records 0 || ltb 4096 records)
+badGroup own far records = badCodes own far || (eqb records 0 || ltb 4096 records)
 
 -- the exchange with the higher point code is controlling for even circuits, the other for odd ones (Q.724, 2.5)
 abbrev pub lowest : ℕ → ℕ → ℕ

@@ -1,9 +1,8 @@
 // The words of document 01: point code and circuit number, a circuit's record, signals, commands, timers and events, what an
-// event answers, and what a row of a printed table means. No rule of the gateway stands here: those are in `signals`, `commands` and `step`.
+// event answers, and a row of a printed table. No rule of the gateway stands here: those are in `signals`, `commands` and `step`.
 ghost use mathlib.Core.Path.{_≡_};
 ghost use mathlib.Core.Bool.{_&&_, _||_};
-ghost use Rattle.circuit.specs.Records.{flagsAllowed, onlyFar, valid};
-ghost use Rattle.circuit.specs.Groups.{badCode, badGroup, lowest, controls};
+ghost use Rattle.circuit.specs.Groups.{badCode, badCodes, badGroup, lowest, controls};
 
 // A point code (0..16383) and a circuit number (CIC, 0..4095) are separate things: one never stands for the other. Each holds any 32-bit
 // number, so that a number which is out of range arrives here as it is and is refused.
@@ -11,7 +10,8 @@ pub struct PointCode(pub u32);
 
 pub struct Cic(pub u32);
 
-// A circuit's record: the state by its number, and the flags 1 own block, 2 far block, 4 awaiting BLA, 8 awaiting UBA.
+// A circuit's record: the state by its number, and the flags 1 own block, 2 far block, 4 awaiting BLA, 8 awaiting UBA. This, what is sent, an
+// outcome and a row are what the definitions speak of; the program holds a record as two octets.
 pub struct Record {
     pub state: u8,
     pub own: bool,
@@ -130,14 +130,18 @@ fn bad_code(code: PointCode) -> bool
     16383 < code.0
 }
 
+// Whether two point codes are no group's: one is too large, or they are equal.
+pub fn bad_codes(own: PointCode, far: PointCode) -> bool
+    ensures { λ r. ⌜ r ≡ badCodes (own .0) (far .0) ⌝ }
+{
+    either(either(bad_code(own), bad_code(far)), own.0 == far.0)
+}
+
 // Whether a group is refused 1: by its codes, or by its number of records.
 pub fn bad_group(own: PointCode, far: PointCode, records: usize) -> bool
     ensures { λ r. ⌜ r ≡ badGroup (own .0) (far .0) records ⌝ }
 {
-    either(
-        either(either(bad_code(own), bad_code(far)), own.0 == far.0),
-        either(records == 0, 4096 < records),
-    )
+    either(bad_codes(own, far), either(records == 0, 4096 < records))
 }
 
 // The lowest circuit that the end with the code `own` controls: it controls every second one from there on (Q.724, 2.5).
@@ -152,29 +156,4 @@ pub fn controls(own: PointCode, far: PointCode, cic: Cic) -> bool
     ensures { λ r. ⌜ r ≡ controls (own .0) (far .0) (cic .0) ⌝ }
 {
     cic.0 % 2 == lowest(own, far)
-}
-
-fn flags_allowed(rec: Record) -> bool
-    ensures { λ r. ⌜ r ≡ flagsAllowed rec ⌝ }
-{
-    both(
-        either(!rec.bla, rec.own),
-        both(either(!rec.uba, !rec.own), !both(rec.bla, rec.uba)),
-    )
-}
-
-fn only_far(rec: Record) -> bool
-    ensures { λ r. ⌜ r ≡ onlyFar rec ⌝ }
-{
-    both(!rec.own, both(!rec.bla, !rec.uba))
-}
-
-// Whether document 01 allows the record: refusal 12 is for the others.
-pub fn valid(rec: Record) -> bool
-    ensures { λ r. ⌜ r ≡ valid rec ⌝ }
-{
-    both(
-        rec.state <= 12,
-        both(flags_allowed(rec), either(rec.state < 12, only_far(rec))),
-    )
 }

@@ -20,27 +20,10 @@ use Rattle.step.specs.Refusals.{foundRules}
 use Rattle.step.specs.Frees.{freed, freesFound}
 use Rattle.step.proofs.Always.{freesListedFound}
 use Rattle.step.proofs.Refused.{refusesFound, atLeast3, thenLast}
-use Rattle.group.specs.declared.Answer.{Answer}
+use Rattle.answers.specs.Answers.{Answer}
 use Rattle.layout.specs.Layout.{recordsIn, counterIn, stateAt, flagsAt, recordOf, recordAt, allowedAt}
 use Rattle.group.specs.Table.{Step, nowhere, refusedAt, stored, released, answering, outcomeAt, stepIn}
 use Rattle.group.specs.Way.{freeing, accepted, landed, onCircuit}
-
--- an answer and a table that are those of the case that a step comes to
-pub met : {t s : Step} {a : Answer} {xs : List ℕ} → t ≡ s → a ≡ s .answer → xs ≡ s .table → (a ≡ t .answer) × (xs ≡ t .table)
-met e p q = (rw e p, rw e q)
-
-module _ (table : List ℕ) (cic : ℕ) (o : Outcome) where
-  pub spends : largest ≤ counterIn table → freeing table cic o ≡ refusedAt 13 table cic
-  spends h = simp (le-leb _ _ h)
-
-  pub releases : counterIn table < largest → freeing table cic o ≡ released table cic o
-  releases h = simp (lt-leb _ _ h)
-
-  pub frees : freed (stateAt table cic) o ≡ true → accepted table cic o ≡ freeing table cic o
-  frees e = simp e
-
-  pub stores : freed (stateAt table cic) o ≡ false → accepted table cic o ≡ stored table cic o
-  stores e = simp e
 
 module _ (c : Bool) (table : List ℕ) (cic : ℕ) (event : Found) where
   pub noFlags : 15 < flagsAt table cic → onCircuit c table cic event ≡ refusedAt 12 table cic

@@ -19,7 +19,8 @@ use Rattle.step.specs.Frees.{freed}
 use Rattle.words.specs.Words.{largest}
 use Rattle.layout.specs.Layout.{recordsIn, counterIn, stateAt, flagsAt, rankAt, recordOf, recordAt, put}
 use Rattle.layout.proofs.Laws.{recordBack, putLength, putRecord, putKeepsRank, otherState, otherFlags, otherRank, rankedLength, rankedState, rankedFlags, rankedRecord}
-use Rattle.group.specs.Table.{Step, refusal, nowhere, refusedAt, stored, released, taking, answering, outcomeAt, stepIn}
+use Rattle.answers.specs.Answers.{refusal}
+use Rattle.group.specs.Table.{Step, nowhere, refusedAt, stored, released, taking, answering, outcomeAt, stepIn}
 use Rattle.group.specs.Way.{freeing, accepted, landed, onCircuit}
 use Rattle.group.proofs.Cases.{stepped, noGroup, noCircuit, inGroup}
 use Rattle.group.specs.Refusals.{refusalIn}

@@ -2,3 +2,4 @@ pub mod Cases
 pub mod Laws
 pub mod Ranks
 pub mod Valid
+pub mod Lands

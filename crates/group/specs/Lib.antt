@@ -1,4 +1,5 @@
 pub mod Refusals
 pub mod Table
 pub mod Way
+pub mod Landing
 pub mod Runs

@@ -5,13 +5,12 @@ use mathlib.Core.Bool.{cond}
 use mathlib.Core.List.{List}
 use Prim.Native.Nat.{ℕ, zero, suc, _+_}
 use lib.Dec.{leb}
-use Rattle.circuit.specs.declared.Sends.the-variants.{Nothing}
 use Rattle.circuit.specs.declared.Outcome.{Outcome}
 use Rattle.circuit.specs.Groups.{controls}
 use Rattle.codes.specs.declared.Found.{Found}
 use Rattle.step.specs.Step.{stepFound}
 use Rattle.step.specs.Frees.{freed}
-use Rattle.group.specs.declared.Answer.{Answer}
+use Rattle.answers.specs.Answers.{Answer, refusal}
 use Rattle.layout.specs.Layout.{counterIn, stateAt, flagsAt, flagsOf, recordAt, put, ranked}
 use Rattle.group.specs.Refusals.{refusalIn}
 
@@ -19,10 +18,6 @@ use Rattle.group.specs.Refusals.{refusalIn}
 pub record Step : Type 0 where
   pub answer : Answer
   pub table : List ℕ
-
--- a refusal sends nothing, gives indication 0 and changes nothing lent
-abbrev pub refusal : (n state flags : ℕ) → Answer
-refusal n s f = record { refusal = n; state = s; flags = f; sends = Nothing; ind = 0 }
 
 -- where there is no such group or circuit: no record to show
 abbrev pub nowhere : ℕ → List ℕ → Step

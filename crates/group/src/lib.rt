@@ -1,134 +1,104 @@
-// A group of circuits whose records lie in a lent table: an event on one of its circuits, with every refusal of document 01.
+// A group of circuits whose records lie in a lent table: an event on one of its circuits, with every refusal of document 01. The answer is one
+// number (`answers`).
 use circuit::Cic;
-use circuit::Outcome;
 use circuit::PointCode;
-use circuit::Sends;
-use codes::Found;
 ghost use mathlib.Core.Path.{_≡_};
-ghost use Rattle.step.specs.Frees.{freed};
-ghost use Rattle.group.specs.Table.{refusal, refusedAt, taken, stepIn};
-ghost use Rattle.group.specs.Way.{freeing, accepted, landed, onCircuit};
-
-// What an event on a circuit answers: the refusal's number, 0 where there is none; the record's state and flags after it; the signals; the
-// indication.
-pub struct Answer {
-    pub refusal: u8,
-    pub state: u8,
-    pub flags: u8,
-    pub sends: Sends,
-    pub ind: u8,
-}
-
-fn refusal(n: u8, state: u8, flags: u8) -> Answer
-    ensures { λ r. ⌜ r ≡ refusal n state flags ⌝ }
-{
-    Answer {
-        refusal: n,
-        state: state,
-        flags: flags,
-        sends: Sends::Nothing,
-        ind: 0,
-    }
-}
-
-fn taken(o: Outcome) -> Answer
-    ensures { λ r. ⌜ r ≡ taken o ⌝ }
-{
-    let after = o.after;
-    let sends = o.sends;
-    Answer {
-        refusal: 0,
-        state: after.state,
-        flags: layout::flags_of(after),
-        sends: sends,
-        ind: o.ind,
-    }
-}
-
-// A refusal beside the circuit's record as it stands.
-fn refused_at(n: u8, table: &[u8], cic: Cic) -> Answer
-    ensures { λ r. ⌜ r ≡ refusedAt n (now (table .entry)) (cic .0) .answer ⌝ }
-{
-    let state = layout::state_at(table, cic);
-    let flags = layout::flags_at(table, cic);
-    refusal(n, state, flags)
-}
-
-// Whether an event takes a record from another state to idle.
-fn frees(before: u8, o: Outcome) -> bool
-    ensures { λ r. ⌜ r ≡ freed before o ⌝ }
-{
-    let after = o.after;
-    circuit::both(before != 0, after.state == 0)
-}
+ghost use Prim.Native.Nat.{_<_};
+ghost use lib.ListN.{length};
+ghost use Rattle.codes.specs.Numbers.{eventOf};
+ghost use Rattle.answers.specs.Answers.{packed, Unpacked};
+ghost use Rattle.layout.specs.Layout.{recordsIn};
+ghost use Rattle.group.specs.Table.{stepIn};
+ghost use Rattle.group.specs.Way.{onCircuit};
+ghost use Rattle.group.specs.Landing.{freeing, accepted, landed};
 
 // An event that frees the circuit: the counter goes up by one and the record takes it.
-fn free(table: &mut [u8], cic: Cic, o: Outcome) -> Answer
-    ensures answers { λ r. ⌜ r ≡ freeing (now (table .entry)) (cic .0) o .answer ⌝ }
-    ensures leaves { λ r. ⌜ now (table .exit) ≡ freeing (now (table .entry)) (cic .0) o .table ⌝ }
+fn free(table: &mut [u8], cic: Cic, state: u8, flags: u8, answer: u64) -> u64
+    ensures answers { λ r. ⌜ r ≡ freeing (now (table .entry)) (cic .0) state flags answer .answer ⌝ }
+    ensures leaves { λ r. ⌜ now (table .exit) ≡ freeing (now (table .entry)) (cic .0) state flags answer .table ⌝ }
 {
     let count = layout::counter_in(table);
     if words::LARGEST <= count {
-        return refused_at(13, table, cic);
+        return answers::refused(names::COUNTER_FULL, state, flags);
     }
-    let after = o.after;
-    layout::put(table, cic, after);
+    layout::put(
+        table,
+        cic,
+        answers::state_of(answer),
+        answers::flags_of(answer),
+    );
     layout::put_counter(table, count + 1);
     layout::put_rank(table, cic, count + 1);
-    taken(o)
+    answer
 }
 
-// An event that the circuit's step does not refuse.
-fn accept(table: &mut [u8], cic: Cic, o: Outcome) -> Answer
-    ensures answers { λ r. ⌜ r ≡ accepted (now (table .entry)) (cic .0) o .answer ⌝ }
-    ensures leaves { λ r. ⌜ now (table .exit) ≡ accepted (now (table .entry)) (cic .0) o .table ⌝ }
+// An event that the circuit's step does not refuse, on a record in this state: one that takes it from another state to idle frees the circuit.
+fn accept(table: &mut [u8], cic: Cic, state: u8, flags: u8, answer: u64) -> u64
+    ensures answers { λ r. ⌜ r ≡ accepted (now (table .entry)) (cic .0) state flags answer .answer ⌝ }
+    ensures leaves { λ r. ⌜ now (table .exit) ≡ accepted (now (table .entry)) (cic .0) state flags answer .table ⌝ }
 {
-    let state = layout::state_at(table, cic);
-    if frees(state, o) {
-        return free(table, cic, o);
+    let new = answers::state_of(answer);
+    if circuit::both(state != names::IDLE, new == names::IDLE) {
+        return free(table, cic, state, flags, answer);
     }
-    let after = o.after;
-    layout::put(table, cic, after);
-    taken(o)
+    layout::put(table, cic, new, answers::flags_of(answer));
+    answer
 }
 
-// What one circuit's step says is put into the table and answered.
-fn land(table: &mut [u8], cic: Cic, o: Outcome) -> Answer
-    ensures answers { λ r. ⌜ r ≡ landed (now (table .entry)) (cic .0) o .answer ⌝ }
-    ensures leaves { λ r. ⌜ now (table .exit) ≡ landed (now (table .entry)) (cic .0) o .table ⌝ }
+// What one circuit's step answers is put into the table.
+fn land(table: &mut [u8], cic: Cic, state: u8, flags: u8, answer: u64) -> u64
+    ensures answers { λ r. ⌜ r ≡ landed (now (table .entry)) (cic .0) state flags answer .answer ⌝ }
+    ensures leaves { λ r. ⌜ now (table .exit) ≡ landed (now (table .entry)) (cic .0) state flags answer .table ⌝ }
 {
-    if o.refusal == 0 {
-        accept(table, cic, o)
+    if answers::refusal_of(answer) == names::ACCEPTED {
+        accept(table, cic, state, flags, answer)
     } else {
-        refused_at(o.refusal, table, cic)
+        answer
     }
 }
 
-// A circuit of the group, which our end controls (con) or not.
-fn on_circuit(con: bool, table: &mut [u8], cic: Cic, event: Found) -> Answer
-    ensures answers { λ r. ⌜ r ≡ onCircuit con (now (table .entry)) (cic .0) event .answer ⌝ }
-    ensures leaves { λ r. ⌜ now (table .exit) ≡ onCircuit con (now (table .entry)) (cic .0) event .table ⌝ }
+// A circuit of the group, which our end controls (con) or not: its state and flags are read once, and written once.
+fn on_circuit(con: bool, table: &mut [u8], cic: Cic, kind: u32, code: u32, detail: u32) -> u64
+    requires { ⌜ cic .0 < recordsIn (length (now table)) ⌝ }
+    ensures packs { λ r. ⌜ r ≡ packed (onCircuit con (now (table .entry)) (cic .0) (eventOf kind code detail) .answer) ⌝ }
+    ensures unpacks { λ r. ⌜ Unpacked r (onCircuit con (now (table .entry)) (cic .0) (eventOf kind code detail) .answer) ⌝ }
+    ensures leaves { λ r. ⌜ now (table .exit) ≡ onCircuit con (now (table .entry)) (cic .0) (eventOf kind code detail) .table ⌝ }
 {
-    let flags = layout::flags_at(table, cic);
-    if 15 < flags {
-        return refused_at(12, table, cic);
-    }
-    let state = layout::state_at(table, cic);
-    let rec = layout::record_of(state, flags);
-    land(table, cic, step::step_found(con, rec, event))
+    let at = layout::stored_at(table, cic);
+    let answer = step::step(con, at.state, at.flags, kind, code, detail);
+    land(table, cic, at.state, at.flags, answer)
 }
 
-// An event on a circuit of the group with these codes and this table. It takes the same time whatever the table's length.
-pub fn step(own: PointCode, far: PointCode, table: &mut [u8], cic: Cic, event: Found) -> Answer
-    ensures answers { λ r. ⌜ r ≡ stepIn (own .0) (far .0) (now (table .entry)) (cic .0) event .answer ⌝ }
-    ensures leaves { λ r. ⌜ now (table .exit) ≡ stepIn (own .0) (far .0) (now (table .entry)) (cic .0) event .table ⌝ }
+// An event, by its kind, code and detail, on a circuit of the group with these codes and this table. It takes the same time whatever the table's
+// length.
+pub fn step(
+    own: PointCode,
+    far: PointCode,
+    table: &mut [u8],
+    cic: Cic,
+    kind: u32,
+    code: u32,
+    detail: u32,
+) -> u64
+    ensures packs { λ r. ⌜ r ≡ packed (stepIn (own .0) (far .0) (now (table .entry)) (cic .0) (eventOf kind code detail) .answer) ⌝ }
+    ensures unpacks { λ r. ⌜ Unpacked r (stepIn (own .0) (far .0) (now (table .entry)) (cic .0) (eventOf kind code detail) .answer) ⌝ }
+    ensures leaves { λ r. ⌜ now (table .exit) ≡ stepIn (own .0) (far .0) (now (table .entry)) (cic .0) (eventOf kind code detail) .table ⌝ }
 {
-    let records = layout::records(table.len());
-    if circuit::bad_group(own, far, records) {
-        return refusal(1, 0, 0);
+    if circuit::either(
+        circuit::bad_codes(own, far),
+        layout::bad_length(table.len()),
+    ) {
+        return answers::refused(names::NO_SUCH_GROUP, 0, 0);
     }
-    if records <= cic.0 as usize {
-        return refusal(2, 0, 0);
+    if layout::ends_before(table.len(), cic) {
+        return answers::refused(names::NO_SUCH_CIRCUIT, 0, 0);
     }
-    on_circuit(circuit::controls(own, far, cic), table, cic, event)
+    on_circuit(
+        circuit::controls(own, far, cic),
+        table,
+        cic,
+        kind,
+        code,
+        detail,
+    )
 }

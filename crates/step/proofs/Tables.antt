@@ -124,7 +124,7 @@ module _ (c : Bool) (s f : ℕ) (t : T (allowed s f)) where
   unfolding stepFound recordOf
   shownMissing = rw (isTrue (valid (recordOf s f)) (isValid s f t)) (ap (λ (k : ℕ). refusal 3 s k) (flagsBack s f (lowFlags s f t)))
 
-  answers : (event : Found) → answerTo c s f event ≡ shown (stepFound c (recordOf s f) event)
+  pub answers : (event : Found) → answerTo c s f event ≡ shown (stepFound c (recordOf s f) event)
   unfolding answerTo
   answers event = rw (isTrue (allowed s f) t) refl
 
@@ -139,7 +139,7 @@ module _ (c : Bool) (s f : ℕ) (t : T (allowed s f)) where
   unpacks hs hf Missing = subst (λ (a : Answers.Answer). Unpacked (packed a) a) (sym (answers Missing ∙ shownMissing)) (refusalBack 3 s f (omega arith) hs hf)
 
 -- two octets that are no record
-bad : (c : Bool) (s f : ℕ) (event : Found) → allowed s f ≡ false → answerTo c s f event ≡ refusal 12 s f
+pub bad : (c : Bool) (s f : ℕ) (event : Found) → allowed s f ≡ false → answerTo c s f event ≡ refusal 12 s f
 unfolding answerTo
 bad c s f event e = rw e refl
 

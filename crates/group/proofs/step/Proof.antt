@@ -1,66 +1,72 @@
 -- `group::step` meets its contract.
 -- Assumes nothing.
 use mathlib.Core.Path.{refl}
-use Rattle.group.proofs.Cases.{met, noGroup, noCircuit, inGroup}
 use native.Mathlib.Omega.{arith}
 use denote.Ref.{now}
+use lib.ListN.{length}
+use Rattle.circuit.specs.Groups.{badCodes}
+use Rattle.codes.specs.Numbers.{eventOf}
+use Rattle.group.specs.Table.{stepIn}
+use Rattle.group.proofs.Cases.{noGroup, noCircuit, inGroup}
+use Rattle.group.proofs.Lands.{nothing, hasNot, has}
 use borrow.Author.Needs.{needs}
 use Rattle.group.proofs.step.Statement.{statement}
 use Rattle.group.proofs.step.Tie as tie
 
-records-requires : tie.Need-records-requires
-records-requires c κs = search needs
+bad-codes-requires : tie.Need-bad-codes-requires
+bad-codes-requires c κs = search needs
 
-bad-group-requires : tie.Need-bad-group-requires
-bad-group-requires c κs = search needs
+bad-length-requires : tie.Need-bad-length-requires
+bad-length-requires c κs = search needs
 
-refusal-requires : tie.Need-refusal-requires
-refusal-requires c κs = search needs
+either-requires : tie.Need-either-requires
+either-requires c κs = search needs
+
+refused-requires : tie.Need-refused-requires
+refused-requires c κs = search needs
 
 returns : tie.Need-returns
-returns c = met (noGroup _ _ _ _ _ (rw (c .before .before .bad-group .ensures, c .before .before .before .records .ensures) at (c .before .if1 .taken))) (c .refusal .ensures) refl
+returns c =
+    let e = c .before .before in let a = c .before .before .before .before .before .before .args in
+    nothing 1 (c .refused .result) (stepIn (a .own .0) (a .far .0) (now (a .table)) (a .cic .0) (eventOf (a .kind) (a .code) (a .detail))) (now (a .table)) _ (omega arith) (noGroup (a .own .0) (a .far .0) (now (a .table)) (a .cic .0) (eventOf (a .kind) (a .code) (a .detail)) (rw (e .either .ensures, e .before .bad-length .ensures, e .before .before .bad-codes .ensures) at (c .before .if1 .taken))) (c .refused .ensures) refl
 
-cast-if2 : tie.Need-cast-if2
-cast-if2 c = search needs
+ends-before-requires : tie.Need-ends-before-requires
+ends-before-requires c κs = search needs
 
-refusal-requires-2 : tie.Need-refusal-requires-2
-refusal-requires-2 c κs = search needs
+refused-requires-2 : tie.Need-refused-requires-2
+refused-requires-2 c κs = search needs
 
 returns-2 : tie.Need-returns-2
 returns-2 c =
-    let d = c .before .before .before in let n = d .before .before in let a = n .before .before .args in
-    met
-    (noCircuit (a .own .0) (a .far .0) (now (a .table)) (a .cic .0) (a .event) (rw (d .before .bad-group .ensures, n .records .ensures) at (d .if1 .left)) (omega (arith, n .records .ensures, c .before .if2 .taken)))
-    (c .refusal2 .ensures)
-    refl
+    let a = c .before .before .before .before .before .before .before .before .args in let good = (rw (c .before .before .before .before .either .ensures, c .before .before .before .before .before .bad-length .ensures, c .before .before .before .before .before .before .bad-codes .ensures) at (c .before .before .before .if1 .left)) in
+    nothing 2 (c .refused2 .result) (stepIn (a .own .0) (a .far .0) (now (a .table)) (a .cic .0) (eventOf (a .kind) (a .code) (a .detail))) (now (a .table)) _ (omega arith) (noCircuit (a .own .0) (a .far .0) (now (a .table)) (a .cic .0) (eventOf (a .kind) (a .code) (a .detail)) good (hasNot (badCodes (a .own .0) (a .far .0)) (length (now (a .table))) (a .cic .0) good (rw (c .before .before .ends-before .ensures) at (c .before .if2 .taken)))) (c .refused2 .ensures) refl
 
 controls-requires : tie.Need-controls-requires
 controls-requires c κs = search needs
 
 on-circuit-requires : tie.Need-on-circuit-requires
-on-circuit-requires c κs = search needs
+on-circuit-requires c κs = let a = c .before .before .before .before .before .before .before .before .before .args in has (badCodes (a .own .0) (a .far .0)) (length (now (a .table))) (a .cic .0) (rw (c .before .before .before .before .before .either .ensures, c .before .before .before .before .before .before .bad-length .ensures, c .before .before .before .before .before .before .before .bad-codes .ensures) at (c .before .before .before .before .if1 .left)) (rw (c .before .before .before .ends-before .ensures) at (c .before .before .if2 .left))
 
 same-length : tie.Need-same-length
 same-length c = search needs
 
 returns-3 : tie.Need-returns-3
 returns-3 c =
-    let e = c .before .before in let g = e .before .before in let d = g .before .before .before in let n = d .before .before in let a = n .before .before .args in
-    met
-    (inGroup (a .own .0) (a .far .0) (now (a .table)) (a .cic .0) (a .event) (rw (d .before .bad-group .ensures, n .records .ensures) at (d .if1 .left)) (omega (arith, n .records .ensures, g .before .if2 .left)))
-    (rw (e .on-circuit .ensures .0, g .controls .ensures))
-    (rw (e .on-circuit .ensures .1, g .controls .ensures))
+    let d = c .before .before .on-circuit in let k = c .before .before .before .before .controls in let a = c .before .before .before .before .before .before .before .before .before .before .before .before .args in let good = (rw (c .before .before .before .before .before .before .before .before .either .ensures, c .before .before .before .before .before .before .before .before .before .bad-length .ensures, c .before .before .before .before .before .before .before .before .before .before .bad-codes .ensures) at (c .before .before .before .before .before .before .before .if1 .left)) in
+    rw (inGroup (a .own .0) (a .far .0) (now (a .table)) (a .cic .0) (eventOf (a .kind) (a .code) (a .detail)) good (has (badCodes (a .own .0) (a .far .0)) (length (now (a .table))) (a .cic .0) good (rw (c .before .before .before .before .before .before .ends-before .ensures) at (c .before .before .before .before .before .if2 .left))))
+    (rw (k .ensures) at (d .ensures))
 
 pub step-spec : {M : Type 1} → statement M
 step-spec =
     tie.close
     (tie.spec
-    records-requires
-    bad-group-requires
-    refusal-requires
+    bad-codes-requires
+    bad-length-requires
+    either-requires
+    refused-requires
     returns
-    cast-if2
-    refusal-requires-2
+    ends-before-requires
+    refused-requires-2
     returns-2
     controls-requires
     on-circuit-requires
