@@ -20,8 +20,8 @@ use Rattle.reader.specs.Reading.{noCodes, plainFields, iamFields, fieldsOf}
 use Rattle.formats.specs.Messages.{isIam, isAcm}
 use Rattle.writer.specs.Writing.{Said, badAddress, octetsOf, writeRules, putting, Outcome, writing}
 use Rattle.writer.proofs.Tests.{fitting, few}
-use Rattle.link.specs.Entries.{fieldsOctets, Told, telling, readInto, writeFrom}
-use Rattle.link.proofs.Entries.{fills}
+use Rattle.tup.specs.Entries.{fieldsOctets, Told, telling, readInto, writeFrom}
+use Rattle.tup.proofs.Entries.{fills}
 use Rattle.inverse.specs.Octets.{Octets}
 use Rattle.inverse.specs.Said.{fieldsSaid}
 use Rattle.inverse.specs.Host.{Holds, Begins}

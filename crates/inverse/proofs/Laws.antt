@@ -1,4 +1,4 @@
--- The laws of messages on the link, over the definitions that the contracts of `reader`, `writer` and `link` cite.
+-- The laws of messages on the link, over the definitions that the contracts of `reader`, `writer` and `tup` cite.
 -- Assumes nothing.
 use mathlib.Core.Path.{_≡_, refl, sym, ap, _∙_}
 use mathlib.Core.Bool.{Bool, true, false, cond}

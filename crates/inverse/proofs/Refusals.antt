@@ -15,7 +15,7 @@ use Rattle.reader.specs.Places.{cicIn, headingIn, sixBitsIn, indicatorsIn, addr
 use Rattle.reader.specs.Reading.{readRules, plainFields, iamFields, fieldsIn, unless, fieldsOf}
 use Rattle.formats.specs.Messages.{isIam, isAcm}
 use Rattle.writer.specs.Writing.{Said, octetsOf, writeRules, putting, writing}
-use Rattle.link.specs.Entries.{fieldsOctets, Told, telling, readInto, writeFrom}
+use Rattle.tup.specs.Entries.{fieldsOctets, Told, telling, readInto, writeFrom}
 use Rattle.words.specs.Octets.{over}
 use Rattle.inverse.specs.Host.{intoRules, Packs}
 

@@ -11,7 +11,7 @@ use Rattle.codes.specs.Headings as Headings
 use Rattle.group.specs.Table.{stepIn}
 use Rattle.select.specs.Selection.{selectIn}
 use Rattle.writer.specs.Writing.{said}
-use Rattle.link.specs.Entries as Entries
+use Rattle.tup.specs.Entries as Entries
 use Rattle.circuit.proofs.both.Reads as both
 use Rattle.circuit.proofs.either.Reads as either
 use Rattle.circuit.proofs.bad_group.Reads as badGroup
@@ -60,8 +60,6 @@ use Rattle.formats.proofs.bad_codes.Reads as badCodes
 use Rattle.reader.proofs.read_fields.Reads as readFields
 use Rattle.reader.proofs.read.Reads as read
 use Rattle.writer.proofs.write.Reads as write
-use Rattle.link.proofs.read_into.Reads as readInto
-use Rattle.link.proofs.write_from.Reads as writeFrom
 use Rattle.tup.proofs.tup_step.Reads as tupStep
 use Rattle.tup.proofs.tup_select.Reads as tupSelect
 use Rattle.tup.proofs.tup_read.Reads as tupRead
@@ -221,18 +219,6 @@ ofReader = (λ κs a x y s t. once, λ κs a x y s t. once)
 -- the buffer
 pub ofWriter : Once write.Learnt × Leaves (λ κs s. now (s .1 .1 .1 .1 .1 .1 .1 .1 .1 .0)) write.Learnt
 ofWriter = (λ κs a x y s t h k. once (h .0) (k .0), λ κs a x y s t h k. once (h .1) (k .1))
-
-pub ofLink :
-    Once readInto.Learnt
-    × Leaves (λ κs s. now (s .1 .1 .1 .1 .0)) readInto.Learnt
-    × Once writeFrom.Learnt
-    × Leaves (λ κs s. now (s .1 .1 .1 .1 .1 .1 .1 .1 .1 .0)) writeFrom.Learnt
-ofLink = (
-  λ κs a x y s t h k. once (h .0) (k .0),
-  λ κs a x y s t h k. once (h .1) (k .1),
-  λ κs a x y s t h k. once (h .0) (k .0),
-  λ κs a x y s t h k. once (h .1) (k .1),
-)
 
 -- the table of an event, the buffers of a message
 pub ofTup :

@@ -47,7 +47,7 @@ use Rattle.formats.specs.Octets.{badCodes}
 use Rattle.reader.specs.Places.{cicIn, headingIn, countIn, addressIn}
 use Rattle.reader.specs.Reading.{elsewhere, unfit, fieldsOf}
 use Rattle.writer.specs.Writing.{Said, tooLarge, badAddress, octetsOf}
-use Rattle.link.specs.Entries.{readInto, writeFrom}
+use Rattle.tup.specs.Entries.{readInto, writeFrom}
 use Rattle.inverse.proofs.Refusals.{answered, intoRefusal, intoGiven, intoTaken, fromRefusal, fromGiven, fromTaken}
 use Rattle.inverse.proofs.Host.{intoKept, fromKept, fromFilled, intoFilled}
 

@@ -43,7 +43,7 @@ use Rattle.reader.specs.Reading.{fieldsOf}
 use Rattle.writer.specs.Writing.{Said, said, octetsOf, writing}
 use Rattle.inverse.specs.Octets.{cleared}
 use Rattle.inverse.specs.Said.{fieldsSaid, saidOf, lengthOf}
-use Rattle.link.specs.Entries.{readInto, writeFrom}
+use Rattle.tup.specs.Entries.{readInto, writeFrom}
 use Rattle.inverse.specs.Host.{Holds}
 use Rattle.inverse.proofs.Host.{carried}
 use Rattle.inverse.proofs.Laws as messages

@@ -2,15 +2,26 @@
 use circuit::Cic;
 use circuit::PointCode;
 use group::Answer;
+use reader::Fields;
 use select::Selected;
 ghost use mathlib.Core.Path.{_≡_};
 ghost use Prim.Native.Nat.{_<_, _≤_};
+ghost use lib.ListN.{length};
+ghost use lib.Seq.{paste};
 ghost use Rattle.codes.specs.Numbers.{eventOf};
+ghost use Rattle.words.specs.Octets.{over};
 ghost use Rattle.group.specs.Table.{stepIn};
 ghost use Rattle.select.specs.Selection.{selectIn};
-ghost use Rattle.link.specs.Entries.{readInto, writeFrom};
 ghost use Rattle.writer.specs.Writing.{said};
 ghost use Rattle.tup.specs.Packed.{packed, Unpacked, packedChoice, ChoiceUnpacked};
+ghost use Rattle.tup.specs.Entries.{fieldsOctets, readInto, writeFrom};
+
+// The octets that the fields of a message take, and where its fifteen codes stand among them.
+const FIELDS_OCTETS: usize = 23;
+
+const CODES_FROM: usize = 8;
+
+const CODES: usize = 15;
 
 fn pack(a: Answer) -> u64
     ensures packs { λ r. ⌜ r ≡ packed a ⌝ }
@@ -60,13 +71,52 @@ pub extern "C" fn tup_select(own: u32, far: u32, table: &[u8]) -> u64
     pack_choice(select::select(PointCode(own), PointCode(far), table))
 }
 
-// Reads a message from its label on, in a group of `count` circuits. The answer is the refusal; the fields go to `out`.
+// Fifteen codes, behind the other fields.
+fn put_codes(address: &[u8], out: &mut [u8])
+    requires { ⌜ (length (now address) ≡ 15) × (23 ≤ length (now out)) ⌝ }
+    ensures { λ _. ⌜ now (out .exit) ≡ paste (now (out .entry)) 8 (now (address .entry)) 15 ⌝ }
+{
+    let mut i = 0;
+    while i < CODES {
+        out[CODES_FROM + i] = address[i];
+        i += 1;
+    }
+}
+
+// The fields of a message at the start of a buffer.
+fn put_fields(f: Fields, out: &mut [u8])
+    requires { ⌜ 23 ≤ length (now out) ⌝ }
+    ensures { λ _. ⌜ now (out .exit) ≡ over (fieldsOctets f) (now (out .entry)) ⌝ }
+{
+    let circuit = f.circuit;
+    let address = f.address;
+    out[0] = (circuit.0 % 256) as u8;
+    out[1] = (circuit.0 / 256 % 256) as u8;
+    out[2] = f.heading;
+    out[3] = f.acm;
+    out[4] = f.category;
+    out[5] = (f.indicators % 256) as u8;
+    out[6] = (f.indicators / 256 % 256) as u8;
+    out[7] = f.count;
+    put_codes(&address, out);
+}
+
+// Reads a message from its label on, in a group of `count` circuits. The answer is the refusal; where it is 0 the fields go to the first 23
+// octets of `out`.
 #[no_mangle]
 pub extern "C" fn tup_read(own: u32, far: u32, count: u32, octets: &[u8], out: &mut [u8]) -> u32
     ensures answers { λ r. ⌜ r ≡ readInto own far count (now (octets .entry)) (now (out .entry)) .answer ⌝ }
     ensures leaves { λ _. ⌜ now (out .exit) ≡ readInto own far count (now (octets .entry)) (now (out .entry)) .buffer ⌝ }
 {
-    link::read_into(own, far, count, octets, out)
+    let f = reader::read_fields(PointCode(own), PointCode(far), count as usize, octets);
+    if f.refusal != 0 {
+        return f.refusal as u32;
+    }
+    if out.len() < FIELDS_OCTETS {
+        return 11;
+    }
+    put_fields(f, out);
+    0
 }
 
 // Writes a message. The answer is the refusal and 256 times the length.
@@ -86,16 +136,17 @@ pub extern "C" fn tup_write(
     ensures answers { λ r. ⌜ r ≡ writeFrom own far count (said cic heading acm category indicators (now (address .entry))) (now (out .entry)) .answer ⌝ }
     ensures leaves { λ _. ⌜ now (out .exit) ≡ writeFrom own far count (said cic heading acm category indicators (now (address .entry))) (now (out .entry)) .buffer ⌝ }
 {
-    link::write_from(
-        own,
-        far,
-        count,
-        cic,
+    let w = writer::write(
+        PointCode(own),
+        PointCode(far),
+        count as usize,
+        Cic(cic),
         heading,
         acm,
         category,
         indicators,
         address,
         out,
-    )
+    );
+    w.refusal as u32 + 256 * (w.length as u32)
 }

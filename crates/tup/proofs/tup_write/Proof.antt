@@ -1,10 +1,10 @@
--- `link::write_from` meets its contract.
+-- `tup::tup_write` meets its contract.
 -- Assumes nothing.
-use Rattle.link.specs.Entries.{packed}
+use Rattle.tup.specs.Entries.{packedWritten}
 use mathlib.Core.Path.{ap}
 use borrow.Author.Needs.{needs}
-use Rattle.link.proofs.write_from.Statement.{statement}
-use Rattle.link.proofs.write_from.Tie as tie
+use Rattle.tup.proofs.tup_write.Statement.{statement}
+use Rattle.tup.proofs.tup_write.Tie as tie
 
 write-requires : tie.Need-write-requires
 write-requires c κs = search needs
@@ -25,9 +25,9 @@ same-length : tie.Need-same-length
 same-length c = search needs
 
 returns : tie.Need-returns
-returns c = (ap packed (c .before .before .before .before .write .ensures .0), c .before .before .before .before .write .ensures .1)
+returns c = (ap packedWritten (c .before .before .before .before .write .ensures .0), c .before .before .before .before .write .ensures .1)
 
-pub write-from-spec : {M : Type 1} → statement M
-write-from-spec =
+pub tup-write-spec : {M : Type 1} → statement M
+tup-write-spec =
     tie.close
     (tie.spec write-requires cast-result cast-result-2 mul-result add-result same-length returns)

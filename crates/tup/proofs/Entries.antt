@@ -12,7 +12,7 @@ use lib.Seq.{paste, paste-suc}
 use Rattle.reader.specs.declared.Fields.{Fields}
 use Rattle.words.specs.Octets.{over}
 use Rattle.reader.specs.Reading.{fieldsOf}
-use Rattle.link.specs.Entries.{fieldsHead, fieldsOctets, Told, telling, readInto}
+use Rattle.tup.specs.Entries.{fieldsHead, fieldsOctets, Told, telling, readInto}
 use Rattle.formats.proofs.Stores.{paste-behind}
 
 -- an answer and a buffer that are told

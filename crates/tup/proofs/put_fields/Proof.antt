@@ -1,14 +1,14 @@
--- `link::put_fields` meets its contract.
+-- `tup::put_fields` meets its contract.
 -- Assumes nothing.
 use native.Mathlib.Omega.{arith}
-use Rattle.link.proofs.Entries.{put-all}
-use Rattle.link.specs.Entries.{fieldsHead}
+use Rattle.tup.proofs.Entries.{put-all}
+use Rattle.tup.specs.Entries.{fieldsHead}
 use lib.Seq.{sets-eq}
 use lib.ListN.{length-set}
 use mathlib.Core.Path.{_∙_}
 use borrow.Author.Needs.{needs}
-use Rattle.link.proofs.put_fields.Statement.{statement}
-use Rattle.link.proofs.put_fields.Tie as tie
+use Rattle.tup.proofs.put_fields.Statement.{statement}
+use Rattle.tup.proofs.put_fields.Tie as tie
 
 cast-out : tie.Need-cast-out
 cast-out c = search needs

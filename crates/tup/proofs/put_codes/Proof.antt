@@ -1,14 +1,14 @@
--- `link::put_codes` meets its contract.
+-- `tup::put_codes` meets its contract.
 -- Assumes nothing.
 use native.Mathlib.Omega.{arith}
 use borrow.Author.Needs.{needs}
-use Rattle.link.proofs.Entries.{codes-more}
+use Rattle.tup.proofs.Entries.{codes-more}
 use lib.Seq.{paste, paste-zero}
 use lib.ListN.{length, length-set}
 use Prim.Native.Nat.{_≤_, _-_}
 use mathlib.Core.Path.{_≡_, refl, _∙_, ap}
-use Rattle.link.proofs.put_codes.Statement.{statement}
-use Rattle.link.proofs.put_codes.Tie as tie
+use Rattle.tup.proofs.put_codes.Statement.{statement}
+use Rattle.tup.proofs.put_codes.Tie as tie
 
 abbrev Inv-loop : tie.InvT-loop
 Inv-loop address out₀ i₀ out i = (i ≤ 15) × (length out ≡ length out₀) × (out ≡ paste out₀ 8 address i)

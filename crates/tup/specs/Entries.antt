@@ -34,8 +34,8 @@ unfoldable pub readInto : ℕ → ℕ → ℕ → List ℕ → List ℕ → Told
 readInto own far count xs buffer = telling (fieldsOf own far count xs .refusal) (fieldsOf own far count xs) buffer
 
 -- the refusal and 256 times the length
-abbrev pub packed : Written → ℕ
-packed w = w .refusal + 256 * w .length
+abbrev pub packedWritten : Written → ℕ
+packedWritten w = w .refusal + 256 * w .length
 
 abbrev pub writeFrom : ℕ → ℕ → ℕ → Said → List ℕ → Told
-writeFrom own far count m buffer = record { answer = packed (writing own far count m buffer .answer); buffer = writing own far count m buffer .buffer }
+writeFrom own far count m buffer = record { answer = packedWritten (writing own far count m buffer .answer); buffer = writing own far count m buffer .buffer }

@@ -1,10 +1,10 @@
--- `link::read_into` meets its contract.
+-- `tup::tup_read` meets its contract.
 -- Assumes nothing.
-use Rattle.link.proofs.Entries.{tells, refuses, no-room, fills}
+use Rattle.tup.proofs.Entries.{tells, refuses, no-room, fills}
 use mathlib.Core.Path.{refl}
 use borrow.Author.Needs.{needs}
-use Rattle.link.proofs.read_into.Statement.{statement}
-use Rattle.link.proofs.read_into.Tie as tie
+use Rattle.tup.proofs.tup_read.Statement.{statement}
+use Rattle.tup.proofs.tup_read.Tie as tie
 
 read-fields-requires : tie.Need-read-fields-requires
 read-fields-requires c κs = search needs
@@ -27,8 +27,8 @@ same-length c = search needs
 returns-3 : tie.Need-returns-3
 returns-3 c = tells (fills _ _ _ _ _ _ (c .before .before .before .before .before .before .before .read-fields .ensures) (c .before .before .before .before .before .if1 .left) (c .before .before .before .before .if2 .left)) refl (c .before .before .put-fields .ensures)
 
-pub read-into-spec : {M : Type 1} → statement M
-read-into-spec =
+pub tup-read-spec : {M : Type 1} → statement M
+tup-read-spec =
     tie.close
     (tie.spec
     read-fields-requires
