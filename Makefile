@@ -6,7 +6,7 @@ PREFIX ?= /usr/local
 all: lib
 
 need:
-	tools/need
+	tools/need $(purpose)
 
 # The archive, its header and the replay program in one place.
 lib:
@@ -18,6 +18,7 @@ demo: lib
 test: need
 	tools/test
 
+bench: purpose = bench
 bench: need lib
 	bench/run
 

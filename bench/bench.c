@@ -4,6 +4,7 @@
    on the same inputs, drawn beforehand from a fixed seed; each figure is the best of several rounds, taken in turns after a
    warm-up, so that neither side has the quieter moments. */
 #define _POSIX_C_SOURCE 199309L
+#include "events.h"
 #include "harness.h"
 #include "reference.h"
 #include "tup.h"
@@ -16,15 +17,12 @@
    learn a single one by heart. */
 enum { ITEMS = 1 << 18, CHOICES = 1 << 8, CHOICES_OF_FEW = 1 << 14, TABLES = 16, FEW = 30, ROUNDS = 15 };
 
-typedef uint64_t (*stepper)(uint32_t, uint32_t, uint8_t *, size_t, uint32_t, uint32_t, uint32_t, uint32_t);
 typedef uint64_t (*selector)(uint32_t, uint32_t, const uint8_t *, size_t);
 typedef uint32_t (*reader)(uint32_t, uint32_t, uint32_t, const uint8_t *, size_t, uint8_t *, size_t);
 typedef uint32_t (*writer)(uint32_t, uint32_t, uint32_t, uint32_t, uint32_t, uint32_t, uint32_t, uint32_t, const uint8_t *, size_t,
                            uint8_t *, size_t);
 
-static struct event {
-    uint32_t cic, kind, code, detail;
-} events[ITEMS];
+static struct event events[ITEMS];
 
 static struct message {
     uint32_t cic, heading, acm, category, indicators;
@@ -42,45 +40,6 @@ static double now(void)
     struct timespec t;
     clock_gettime(CLOCK_MONOTONIC, &t);
     return (double)t.tv_sec * 1e9 + (double)t.tv_nsec;
-}
-
-/* One life of a call: seized, completed, answered, hung up, cleared; outgoing or incoming, as the circuit stands. */
-static struct event next_of_call(uint32_t cic, uint32_t state)
-{
-    static const struct event next[] = {
-        [0] = {0, 2, 1, 0}, [1] = {0, 1, 0x14, 1}, [2] = {0, 1, 0x16, 0}, [3] = {0, 1, 0x36, 0}, [4] = {0, 2, 2, 0},
-        [5] = {0, 1, 0x17, 0}, [6] = {0, 2, 3, 5}, [7] = {0, 2, 4, 0}, [8] = {0, 2, 4, 1}, [9] = {0, 2, 5, 0},
-        [10] = {0, 1, 0x46, 0}, [11] = {0, 1, 0x46, 0}, [12] = {0, 1, 0x17, 0}};
-    struct event e = next[state];
-    if (state == 0 && chance(2))
-        e = (struct event){0, 1, 0x11, 0};
-    e.cic = cic;
-    return e;
-}
-
-/* Calls on all circuits at once, with a stray event every now and then: most events are taken, as in a working exchange. */
-static void draw_events(uint32_t circuits)
-{
-    static uint8_t table[TUP_TABLE_OCTETS(TUP_CIRCUITS_MAX)];
-    memset(table, 0, sizeof table);
-    for (size_t i = 0; i < ITEMS; i++) {
-        uint32_t cic = draw(circuits);
-        struct event e = next_of_call(cic, tup_record_state(table, cic));
-        if (chance(16))
-            e = (struct event){cic, 1 + draw(3), draw(256), 0};
-        ref_step(2, 1, table, TUP_TABLE_OCTETS(circuits), e.cic, e.kind, e.code, e.detail);
-        events[i] = e;
-    }
-}
-
-/* An IAM and then the CLF, which frees the circuit. */
-static void draw_releases(uint32_t circuits)
-{
-    for (size_t i = 0; i < ITEMS; i += 2) {
-        uint32_t cic = draw(circuits);
-        events[i] = (struct event){cic, 1, 0x11, 0};
-        events[i + 1] = (struct event){cic, 1, 0x46, 0};
-    }
 }
 
 static void draw_messages(void)
@@ -127,11 +86,8 @@ static uint64_t run_selects(int archive, size_t items, size_t table_len)
 static uint64_t run_steps(int archive, size_t items, size_t table_len)
 {
     static uint8_t table[TUP_TABLE_OCTETS(TUP_CIRCUITS_MAX)];
-    stepper step = archive ? tup_step : ref_step;
-    uint64_t sum = 0;
     memset(table, 0, sizeof table);
-    for (size_t i = 0; i < items; i++)
-        sum += step(2, 1, table, table_len, events[i].cic, events[i].kind, events[i].code, events[i].detail);
+    uint64_t sum = step_all(archive ? tup_step : ref_step, table, table_len, events, items);
     return sum + tup_counter(table) + tup_record_rank(table, 0);
 }
 
@@ -190,14 +146,14 @@ static void measure_choices(void)
 int main(void)
 {
     printf("%-32s %10s %10s %8s\n", "ns, best of 15 rounds", "archive", "reference", "ratio");
-    draw_events(1);
+    draw_events(events, ITEMS, 1);
     measure("event, group of 1", run_steps, ITEMS, TUP_TABLE_OCTETS(1));
     measure("event, group of 4096, one busy", run_steps, ITEMS, TUP_TABLE_OCTETS(TUP_CIRCUITS_MAX));
-    draw_events(TUP_CIRCUITS_MAX);
+    draw_events(events, ITEMS, TUP_CIRCUITS_MAX);
     measure("event, group of 4096, all busy", run_steps, ITEMS, TUP_TABLE_OCTETS(TUP_CIRCUITS_MAX));
-    draw_releases(1);
+    draw_releases(events, ITEMS, 1);
     measure("set up, released, group of 1", run_steps, ITEMS, TUP_TABLE_OCTETS(1));
-    draw_releases(TUP_CIRCUITS_MAX);
+    draw_releases(events, ITEMS, TUP_CIRCUITS_MAX);
     measure("set up, released, group of 4096", run_steps, ITEMS, TUP_TABLE_OCTETS(TUP_CIRCUITS_MAX));
     measure_choices();
     draw_messages();
