@@ -1,15 +1,14 @@
-// The paper's numbers for signals and events: a signal's heading and the signal of a heading; the event of a kind, a code and a detail.
+// The paper's numbers for signals and events: a failure's heading and the signal of a heading; the event of a kind, a code and a detail.
 use circuit::AddressType;
 use circuit::Charging;
 use circuit::Command;
 use circuit::Event;
 use circuit::Failure;
-use circuit::Sends;
 use circuit::Signal;
 use circuit::Timer;
 ghost use mathlib.Core.Path.{_≡_};
 ghost use Prim.Native.Nat.{_<_};
-ghost use Rattle.codes.specs.Headings.{failureHeading, headingOf, failureOf, failing, signalOf, firstHeading, secondHeading};
+ghost use Rattle.codes.specs.Headings.{failureHeading, failureOf, failing, signalOf};
 ghost use Rattle.codes.specs.Numbers.{bare, arrives, signalEvent, complete, answer, failWith, commandEvent, timerEvent, eventOf};
 
 // The failure, and the signal, of a heading.
@@ -42,48 +41,6 @@ pub fn failure_heading(f: Failure) -> u8
         Failure::Unn => 0x75,
         Failure::Los => 0x85,
         Failure::Sst => 0x95,
-    }
-}
-
-pub fn heading(s: Signal) -> u8
-    ensures { λ r. ⌜ r ≡ headingOf s ⌝ }
-{
-    match s {
-        Signal::Iam => 0x11,
-        Signal::Acm(_) => 0x14,
-        Signal::Anc => 0x16,
-        Signal::Ann => 0x26,
-        Signal::Cbk => 0x36,
-        Signal::Clf => 0x46,
-        Signal::Ran => 0x56,
-        Signal::Rlg => 0x17,
-        Signal::Blo => 0x27,
-        Signal::Bla => 0x37,
-        Signal::Ubl => 0x47,
-        Signal::Uba => 0x57,
-        Signal::Rsc => 0x77,
-        Signal::Fail(f) => failure_heading(f),
-    }
-}
-
-// The headings of what is sent, 0 for none.
-pub fn first_heading(sends: Sends) -> u8
-    ensures { λ r. ⌜ r ≡ firstHeading sends ⌝ }
-{
-    match sends {
-        Sends::Nothing => 0,
-        Sends::One(s) => heading(s),
-        Sends::Two(s, _) => heading(s),
-    }
-}
-
-pub fn second_heading(sends: Sends) -> u8
-    ensures { λ r. ⌜ r ≡ secondHeading sends ⌝ }
-{
-    match sends {
-        Sends::Nothing => 0,
-        Sends::One(_) => 0,
-        Sends::Two(_, t) => heading(t),
     }
 }
 

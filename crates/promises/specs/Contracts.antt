@@ -14,13 +14,11 @@ use Rattle.writer.specs.Writing.{said}
 use Rattle.tup.specs.Entries as Entries
 use Rattle.circuit.proofs.both.Reads as both
 use Rattle.circuit.proofs.either.Reads as either
+use Rattle.circuit.proofs.bad_codes.Reads as badCodes
 use Rattle.circuit.proofs.bad_group.Reads as badGroup
 use Rattle.circuit.proofs.lowest.Reads as lowest
 use Rattle.circuit.proofs.controls.Reads as controls
-use Rattle.circuit.proofs.valid.Reads as valid
-use Rattle.codes.proofs.heading.Reads as heading
-use Rattle.codes.proofs.first_heading.Reads as firstHeading
-use Rattle.codes.proofs.second_heading.Reads as secondHeading
+use Rattle.codes.proofs.failure_heading.Reads as failureHeading
 use Rattle.codes.proofs.failure_of.Reads as failureOf
 use Rattle.codes.proofs.signal_of.Reads as signalOf
 use Rattle.codes.proofs.event_of.Reads as eventOf
@@ -29,30 +27,41 @@ use Rattle.words.proofs.number.Reads as number
 use Rattle.words.proofs.word.Reads as word
 use Rattle.words.proofs.put_octet.Reads as putOctet
 use Rattle.words.proofs.put_word.Reads as putWord
+use Rattle.answers.proofs.answer.Reads as answer
+use Rattle.answers.proofs.refused.Reads as refused
+use Rattle.answers.proofs.sent.Reads as sent
+use Rattle.answers.proofs.refusal_of.Reads as refusalOf
+use Rattle.answers.proofs.ind_of.Reads as indOf
+use Rattle.answers.proofs.state_of.Reads as stateOf
+use Rattle.answers.proofs.flags_of.Reads as flagsOf
+use Rattle.answers.proofs.first_of.Reads as firstOf
+use Rattle.answers.proofs.second_of.Reads as secondOf
+use Rattle.marks.proofs.flags_of.Reads as marksFlagsOf
+use Rattle.marks.proofs.own.Reads as own
+use Rattle.marks.proofs.far.Reads as far
+use Rattle.marks.proofs.bla.Reads as bla
+use Rattle.marks.proofs.uba.Reads as uba
+use Rattle.marks.proofs.legal.Reads as legal
+use Rattle.marks.proofs.legal_in_reset.Reads as legalInReset
+use Rattle.marks.proofs.blocked.Reads as blocked
+use Rattle.marks.proofs.unblocked.Reads as unblocked
+use Rattle.marks.proofs.kept_out.Reads as keptOut
+use Rattle.marks.proofs.reset.Reads as reset
+use Rattle.marks.proofs.on_signal.Reads as onMarks
 use Rattle.layout.proofs.table_octets.Reads as tableOctets
 use Rattle.layout.proofs.records.Reads as records
+use Rattle.layout.proofs.bad_length.Reads as badLength
+use Rattle.layout.proofs.ends_before.Reads as endsBefore
 use Rattle.layout.proofs.counter_in.Reads as counterIn
-use Rattle.layout.proofs.state_at.Reads as stateAt
-use Rattle.layout.proofs.flags_at.Reads as flagsAt
 use Rattle.layout.proofs.stored_at.Reads as storedAt
-use Rattle.layout.proofs.flags_of.Reads as flagsOf
-use Rattle.layout.proofs.record_of.Reads as recordOf
 use Rattle.layout.proofs.allowed.Reads as allowed
 use Rattle.layout.proofs.put.Reads as put
 use Rattle.layout.proofs.put_counter.Reads as putCounter
 use Rattle.layout.proofs.put_rank.Reads as putRank
-use Rattle.rows.proofs.refused.Reads as refused
-use Rattle.rows.proofs.rows1.Reads as rows1
-use Rattle.rows.proofs.rows2.Reads as rows2
-use Rattle.rows.proofs.rows3.Reads as rows3
-use Rattle.rows.proofs.rows4.Reads as rows4
-use Rattle.rows.proofs.rows5.Reads as rows5
-use Rattle.rows.proofs.rows6.Reads as rows6
-use Rattle.signals.proofs.on_signal.Reads as onSignal
+use Rattle.calls.proofs.on_signal.Reads as onCall
 use Rattle.commands.proofs.on_command.Reads as onCommand
 use Rattle.commands.proofs.on_timer.Reads as onTimer
 use Rattle.step.proofs.step.Reads as step
-use Rattle.step.proofs.step_found.Reads as stepFound
 use Rattle.group.proofs.step.Reads as groupStep
 use Rattle.select.proofs.select.Reads as select
 use Rattle.formats.proofs.fixed_length.Reads as fixedLength
@@ -95,10 +104,10 @@ once p q = p ∙ sym q
 pub ofCircuit :
     Once both.Learnt
     × Once either.Learnt
+    × Once badCodes.Learnt
     × Once badGroup.Learnt
     × Once lowest.Learnt
     × Once controls.Learnt
-    × Once valid.Learnt
 ofCircuit = (
   λ κs a x y s t. once,
   λ κs a x y s t. once,
@@ -109,15 +118,11 @@ ofCircuit = (
 )
 
 pub ofCodes :
-    Once heading.Learnt
-    × Once firstHeading.Learnt
-    × Once secondHeading.Learnt
+    Once failureHeading.Learnt
     × Once failureOf.Learnt
     × Once signalOf.Learnt
     × Once eventOf.Learnt
 ofCodes = (
-  λ κs a x y s t. once,
-  λ κs a x y s t. once,
   λ κs a x y s t. once,
   λ κs a x y s t. once,
   λ κs a x y s t. once,
@@ -138,15 +143,63 @@ ofWords = (
   λ κs a x y s t. once,
 )
 
+pub ofAnswers :
+    Once answer.Learnt
+    × Once refused.Learnt
+    × Once sent.Learnt
+    × Once refusalOf.Learnt
+    × Once indOf.Learnt
+    × Once stateOf.Learnt
+    × Once flagsOf.Learnt
+    × Once firstOf.Learnt
+    × Once secondOf.Learnt
+ofAnswers = (
+  λ κs a x y s t. once,
+  λ κs a x y s t. once,
+  λ κs a x y s t. once,
+  λ κs a x y s t. once,
+  λ κs a x y s t. once,
+  λ κs a x y s t. once,
+  λ κs a x y s t. once,
+  λ κs a x y s t. once,
+  λ κs a x y s t. once,
+)
+
+pub ofMarks :
+    Once marksFlagsOf.Learnt
+    × Once own.Learnt
+    × Once far.Learnt
+    × Once bla.Learnt
+    × Once uba.Learnt
+    × Once legal.Learnt
+    × Once legalInReset.Learnt
+    × Once blocked.Learnt
+    × Once unblocked.Learnt
+    × Once keptOut.Learnt
+    × Once reset.Learnt
+    × Once onMarks.Learnt
+ofMarks = (
+  λ κs a x y s t. once,
+  λ κs a x y s t. once,
+  λ κs a x y s t. once,
+  λ κs a x y s t. once,
+  λ κs a x y s t. once,
+  λ κs a x y s t. once,
+  λ κs a x y s t. once,
+  λ κs a x y s t. once,
+  λ κs a x y s t. once,
+  λ κs a x y s t. once,
+  λ κs a x y s t. once,
+  λ κs a x y s t. once,
+)
+
 pub ofLayout :
     Once tableOctets.Learnt
     × Once records.Learnt
+    × Once badLength.Learnt
+    × Once endsBefore.Learnt
     × Once counterIn.Learnt
-    × Once stateAt.Learnt
-    × Once flagsAt.Learnt
     × Once storedAt.Learnt
-    × Once flagsOf.Learnt
-    × Once recordOf.Learnt
     × Once allowed.Learnt
     × Leaves (λ κs s. now (s .0)) put.Learnt
     × Leaves (λ κs s. now (s .0)) putCounter.Learnt
@@ -162,30 +215,10 @@ ofLayout = (
   λ κs a x y s t. once,
   λ κs a x y s t. once,
   λ κs a x y s t. once,
-  λ κs a x y s t. once,
-  λ κs a x y s t. once,
 )
 
-pub ofRows :
-    Once refused.Learnt
-    × Once rows1.Learnt
-    × Once rows2.Learnt
-    × Once rows3.Learnt
-    × Once rows4.Learnt
-    × Once rows5.Learnt
-    × Once rows6.Learnt
-ofRows = (
-  λ κs a x y s t. once,
-  λ κs a x y s t. once,
-  λ κs a x y s t. once,
-  λ κs a x y s t. once,
-  λ κs a x y s t. once,
-  λ κs a x y s t. once,
-  λ κs a x y s t. once,
-)
-
-pub ofSignals : Once onSignal.Learnt
-ofSignals κs a x y s t = once
+pub ofCalls : Once onCall.Learnt
+ofCalls κs a x y s t = once
 
 pub ofCommands :
     Once onCommand.Learnt
@@ -195,17 +228,12 @@ ofCommands = (
   λ κs a x y s t. once,
 )
 
-pub ofStep :
-    Once step.Learnt
-    × Once stepFound.Learnt
-ofStep = (
-  λ κs a x y s t. once,
-  λ κs a x y s t. once,
-)
+pub ofStep : Once step.Learnt
+ofStep κs a x y s t h k = once (h .0) (k .0)
 
 -- the table
 pub ofGroup : Once groupStep.Learnt × Leaves (λ κs s. now (s .1 .1 .0)) groupStep.Learnt
-ofGroup = (λ κs a x y s t h k. once (h .0) (k .0), λ κs a x y s t h k. once (h .1) (k .1))
+ofGroup = (λ κs a x y s t h k. once (h .0) (k .0), λ κs a x y s t h k. once (h .1 .1) (k .1 .1))
 
 pub ofSelect : Once select.Learnt
 ofSelect κs a x y s t = once

@@ -43,8 +43,8 @@ fn taken(cic: u32, looked: u32) -> Selected
 fn free(at: Stored) -> bool
     ensures { λ r. ⌜ r ≡ free (at .state) (at .flags) ⌝ }
 {
-    let rec = layout::record_of(at.state, at.flags);
-    circuit::both(at.state == 0, !rec.far)
+    let far = marks::far(at.flags);
+    circuit::both(at.state == names::IDLE, !far)
 }
 
 // Whether all records from one on are allowed.

@@ -7,12 +7,12 @@ use Rattle.codes.specs.Numbers.{eventOf}
 use Rattle.step.specs.Step.{step, stepFound}
 use Rattle.group.specs.Table.{stepIn}
 use Rattle.words.specs.Words as words
-use Rattle.layout.specs.Layout.{recordsIn, counterIn, stateAt, flagsAt, flagsOf, recordOf, put, putCounter, putRank}
+use Rattle.layout.specs.Layout.{recordsIn, counterIn, stateAt, flagsAt, flagsOf, recordOf, putOctets, putCounter, putRank}
 use Rattle.circuit.specs.Rows.{first}
 use Rattle.records.specs.Records.{octetsOf, recorded, item}
 use Rattle.trace.specs.Replay.{happens, textAt, linesWithin, lines, replay}
 use Rattle.trace.specs.Cases.{wholeCase, wholeText}
 
 pub theWholeCase : replay wholeCase ≡ wholeText
-unfolding first words.number words.put recordsIn counterIn stateAt flagsAt flagsOf recordOf put putCounter putRank replay lines linesWithin textAt item recorded octetsOf happens stepIn stepFound step eventOf line groupLine endLine cutLine field stateAndFlags headings decimal digitsWithin
+unfolding first words.number words.put recordsIn counterIn stateAt flagsAt flagsOf recordOf putOctets putCounter putRank replay lines linesWithin textAt item recorded octetsOf happens stepIn stepFound step eventOf line groupLine endLine cutLine field stateAndFlags headings decimal digitsWithin
 theWholeCase = refl

@@ -6,7 +6,7 @@ use Prim.Native.Nat.{ℕ, zero, suc, _+_, _-_}
 use lib.ListN.{length, drop}
 use Rattle.codes.specs.Numbers.{eventOf}
 use Rattle.codes.specs.Headings.{firstHeading, secondHeading}
-use Rattle.group.specs.declared.Answer.{Answer}
+use Rattle.answers.specs.Answers.{Answer}
 use Rattle.layout.specs.Layout as grouped
 use Rattle.group.specs.Table.{Step, stepIn}
 use Rattle.text.specs.declared.Line.{Line}

@@ -3,10 +3,11 @@
 use mathlib.Core.Path.{_≡_}
 use mathlib.Core.Bool.{true, false, cond}
 use mathlib.Core.List.{List, _++_}
-use Prim.Native.Nat.{ℕ, _+_, _-_, _≤_}
+use Prim.Native.Nat.{ℕ, _+_, _-_, _/_, _%_, _≤_}
 use lib.Dec.{eqb}
 use lib.ListN.{length, take, drop}
 use Rattle.words.specs.Octets.{over}
+use Rattle.text.specs.declared.Line.{Line}
 use Rattle.records.specs.declared.Item.{Item}
 use Rattle.trace.specs.declared.Running.{Running}
 use Rattle.trace.specs.declared.Turn.{Turn}
@@ -14,6 +15,19 @@ use Rattle.trace.specs.declared.Going.{Going}
 use Rattle.trace.specs.declared.Fed.{Fed}
 use Rattle.trace.specs.Replay.{onward}
 use Rattle.trace.specs.Feed.{Share, shareAt, stageAt, run, answerOf}
+
+-- an event's line, from the number that is answered
+abbrev pub wordLine : (ordinal circuit answer : ℕ) → Line
+wordLine ordinal circuit w = record {
+  ordinal = ordinal;
+  circuit = circuit;
+  refusal = w % 256;
+  state = w / 0x10000 % 256;
+  flags = w / 0x1000000 % 256;
+  ind = w / 0x100 % 256;
+  first = w / 0x100000000 % 256;
+  second = w / 0x10000000000 % 256;
+}
 
 abbrev pub noTurn : Turn
 noTurn = record { taken = 0; written = 0 }

@@ -1,7 +1,6 @@
 // The replay of a trace (document 01, "The trace and its replay"): it is fed the trace in parts, and writes its lines into lent room. The table is the group's, all zero before the first event.
 use circuit::Cic;
 use circuit::PointCode;
-use group::Answer;
 use records::Item;
 use records::Recorded;
 use text::Line;
@@ -12,9 +11,9 @@ ghost use lib.ListN.{length};
 ghost use Rattle.text.specs.Writing.{Printed, inRoom};
 ghost use Rattle.words.specs.Octets.{over};
 ghost use Rattle.words.specs.Words.{largest};
-ghost use Rattle.trace.specs.Replay.{lineOf, onward, opened};
+ghost use Rattle.trace.specs.Replay.{onward, opened};
 ghost use Rattle.trace.specs.Feed.{shareOf, shareAt, stageAt, answerOf, stays, begins, fed, isOver, tableOctets, lastLine, kept};
-ghost use Rattle.trace.specs.Way.{noTurn, turnOf, started, Goes, ended, Ran};
+ghost use Rattle.trace.specs.Way.{wordLine, noTurn, turnOf, started, Goes, ended, Ran};
 
 // The largest ordinal; an event that has it is not taken, since none could follow.
 const LAST: u64 = words::LARGEST;
@@ -55,19 +54,19 @@ pub struct Fed {
     pub stage: Stage,
 }
 
-fn line_of(ordinal: u64, circuit: u16, a: Answer) -> Line
-    ensures { λ r. ⌜ r ≡ lineOf ordinal circuit a ⌝ }
+// An event's line, from the number that was answered.
+fn line_of(ordinal: u64, circuit: u16, answer: u64) -> Line
+    ensures { λ r. ⌜ r ≡ wordLine ordinal circuit answer ⌝ }
 {
-    let sends = a.sends;
     Line {
         ordinal: ordinal,
         circuit: circuit,
-        refusal: a.refusal,
-        state: a.state,
-        flags: a.flags,
-        ind: a.ind,
-        first: codes::first_heading(sends),
-        second: codes::second_heading(sends),
+        refusal: answers::refusal_of(answer),
+        state: answers::state_of(answer),
+        flags: answers::flags_of(answer),
+        ind: answers::ind_of(answer),
+        first: answers::first_of(answer),
+        second: answers::second_of(answer),
     }
 }
 
@@ -80,9 +79,16 @@ fn event(r: Running, table: &mut [u8], e: Recorded, room: &mut [u8]) -> Turn
 {
     let own = r.own;
     let far = r.far;
-    let found = codes::event_of(e.kind as u32, e.code as u32, e.detail as u32);
-    let a = group::step(own, far, table, Cic(e.circuit as u32), found);
-    let written = text::event_line(room, line_of(r.next, e.circuit, a));
+    let answer = group::step(
+        own,
+        far,
+        table,
+        Cic(e.circuit as u32),
+        e.kind as u32,
+        e.code as u32,
+        e.detail as u32,
+    );
+    let written = text::event_line(room, line_of(r.next, e.circuit, answer));
     Turn {
         taken: records::octets_of(e.kind),
         written: written,

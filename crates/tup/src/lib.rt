@@ -1,7 +1,6 @@
 // The entries for a host in C, on numbers and octets. Every number crosses as 32 bits and is tested inside, so that none is cut to fit.
 use circuit::Cic;
 use circuit::PointCode;
-use group::Answer;
 use reader::Fields;
 use select::Selected;
 ghost use mathlib.Core.Path.{_≡_};
@@ -10,10 +9,11 @@ ghost use lib.ListN.{length};
 ghost use lib.Seq.{paste};
 ghost use Rattle.codes.specs.Numbers.{eventOf};
 ghost use Rattle.words.specs.Octets.{over};
+ghost use Rattle.answers.specs.Answers.{packed, Unpacked};
 ghost use Rattle.group.specs.Table.{stepIn};
 ghost use Rattle.select.specs.Selection.{selectIn};
 ghost use Rattle.writer.specs.Writing.{said};
-ghost use Rattle.tup.specs.Packed.{packed, Unpacked, packedChoice, ChoiceUnpacked};
+ghost use Rattle.tup.specs.Packed.{packedChoice, ChoiceUnpacked};
 ghost use Rattle.tup.specs.Entries.{fieldsOctets, readInto, writeFrom};
 
 // The octets that the fields of a message take, and where its fifteen codes stand among them.
@@ -22,16 +22,6 @@ const FIELDS_OCTETS: usize = 23;
 const CODES_FROM: usize = 8;
 
 const CODES: usize = 15;
-
-fn pack(a: Answer) -> u64
-    ensures packs { λ r. ⌜ r ≡ packed a ⌝ }
-    ensures unpacks { λ r. ⌜ Unpacked r a ⌝ }
-{
-    let sends = a.sends;
-    let first = codes::first_heading(sends);
-    let second = codes::second_heading(sends);
-    words::number(a.refusal, a.ind, a.state, a.flags, first, second, 0, 0)
-}
 
 // An event on a circuit of a group: own and far point code, the group's table of records, the circuit; the event by its kind (1 signal,
 // 2 command, 3 timer), its code and its detail. The answer is packed into one number.
@@ -49,8 +39,15 @@ pub extern "C" fn tup_step(
     ensures unpacks { λ r. ⌜ Unpacked r (stepIn own far (now (table .entry)) cic (eventOf kind code detail) .answer) ⌝ }
     ensures leaves { λ r. ⌜ now (table .exit) ≡ stepIn own far (now (table .entry)) cic (eventOf kind code detail) .table ⌝ }
 {
-    let event = codes::event_of(kind, code, detail);
-    pack(group::step(PointCode(own), PointCode(far), table, Cic(cic), event))
+    group::step(
+        PointCode(own),
+        PointCode(far),
+        table,
+        Cic(cic),
+        kind,
+        code,
+        detail,
+    )
 }
 
 fn pack_choice(s: Selected) -> u64

@@ -1,24 +1,22 @@
 -- `trace::event` meets its contract.
 -- Assumes nothing.
+use denote.Ref.{now}
 use Rattle.trace.proofs.Turns.{eventLands}
 use borrow.Author.Needs.{needs}
 use Rattle.trace.proofs.event.Statement.{statement}
 use Rattle.trace.proofs.event.Tie as tie
 
-cast-event-of : tie.Need-cast-event-of
-cast-event-of c = search needs
+cast-t11 : tie.Need-cast-t11
+cast-t11 c = search needs
 
-cast-event-of-2 : tie.Need-cast-event-of-2
-cast-event-of-2 c = search needs
+cast-step : tie.Need-cast-step
+cast-step c = search needs
 
-cast-event-of-3 : tie.Need-cast-event-of-3
-cast-event-of-3 c = search needs
+cast-step-2 : tie.Need-cast-step-2
+cast-step-2 c = search needs
 
-event-of-requires : tie.Need-event-of-requires
-event-of-requires c κs = search needs
-
-cast-t10 : tie.Need-cast-t10
-cast-t10 c = search needs
+cast-step-3 : tie.Need-cast-step-3
+cast-step-3 c = search needs
 
 step-requires : tie.Need-step-requires
 step-requires c κs = search needs
@@ -40,18 +38,17 @@ same-length-2 c = search needs
 
 returns : tie.Need-returns
 returns c =
-    let k = c .before .before .before .before .before .before .before .before .step .ensures in
-    eventLands _ _ _ _ _ _ _ _ _ _ _ (c .before .before .before .before .before .before .before .before .before .before .before .event-of .ensures) (k .0) (k .1) (c .before .before .before .before .line-of .ensures) (c .before .before .before .before .before .before .before .before .before .before .before .before .before .before .before .before .before .before .before .pre) (c .before .before .before .event-line .ensures) (c .octets-of .ensures)
+    let s = c .before .before .before .before .before .before .before .before .step in let b = c .before .before .before .before .before .before .before .before .before .before .before .before .before .before .before .before .before .before in let a = b .args in
+    eventLands (a .r) (now (a .table)) (a .e) (s .result) (c .before .before .before .before .line-of .result) _ (now (a .room)) _ (c .before .before .before .event-line .result) (c .octets-of .result) (s .ensures .1 .0) (s .ensures .1 .1) (c .before .before .before .before .line-of .ensures) (b .pre) (c .before .before .before .event-line .ensures) (c .octets-of .ensures)
 
 pub event-spec : {M : Type 1} → statement M
 event-spec =
     tie.close
     (tie.spec
-    cast-event-of
-    cast-event-of-2
-    cast-event-of-3
-    event-of-requires
-    cast-t10
+    cast-t11
+    cast-step
+    cast-step-2
+    cast-step-3
     step-requires
     line-of-requires
     event-line-requires
