@@ -14,7 +14,7 @@ use Rattle.writer.specs.Writing.{said}
 use Rattle.tup.specs.Entries as Entries
 use Rattle.circuit.proofs.both.Reads as both
 use Rattle.circuit.proofs.either.Reads as either
-use Rattle.circuit.proofs.bad_codes.Reads as badCodes
+use Rattle.circuit.proofs.bad_codes.Reads as badPointCodes
 use Rattle.circuit.proofs.bad_group.Reads as badGroup
 use Rattle.circuit.proofs.lowest.Reads as lowest
 use Rattle.circuit.proofs.controls.Reads as controls
@@ -104,7 +104,7 @@ once p q = p ∙ sym q
 pub ofCircuit :
     Once both.Learnt
     × Once either.Learnt
-    × Once badCodes.Learnt
+    × Once badPointCodes.Learnt
     × Once badGroup.Learnt
     × Once lowest.Learnt
     × Once controls.Learnt
