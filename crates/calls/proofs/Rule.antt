@@ -32,13 +32,13 @@ isSame a b t =
 abbrev rightAt : ℕ → Bool
 rightAt k = isNumber (getD numbers k 0) && same (meaning (getD numbers k 0)) (callAt k)
 
--- the test, at all 312 entries
-tested : T (eachBelow 312 rightAt)
+-- the test, at all 364 entries
+tested : T (eachBelow 364 rightAt)
 unfolding meaning onCall first
 tested = tt
 
-pub ruled : (k : ℕ) → k < 312 → meaning (getD numbers k 0) ≡ callAt k
-ruled k h = isSame (meaning (getD numbers k 0)) (callAt k) (right (isNumber (getD numbers k 0)) _ (atBelow 312 rightAt tested k h))
+pub ruled : (k : ℕ) → k < 364 → meaning (getD numbers k 0) ≡ callAt k
+ruled k h = isSame (meaning (getD numbers k 0)) (callAt k) (right (isNumber (getD numbers k 0)) _ (atBelow 364 rightAt tested k h))
 
 -- signals that share a column do the same to a call
 abbrev shares : Signal → Bool

@@ -59,26 +59,26 @@ meaning n = byDigit (n / 16) (n % 16)
 abbrev pub isNumber : ℕ → Bool
 isNumber n = leb (n / 16) 12 && leb (n % 16) 0xe
 
--- THE TABLE'S ORDER. A column a signal as printed, in it the states, and at each state c and then n
+-- THE TABLE'S ORDER. A column a signal, in the order in which document 01 lists their headings, the failures sharing the last one; in it the states,
+-- and at each state c and then n
 abbrev pub columns : List Signal
-columns = Iam ∷ Acm 0 ∷ Anc ∷ Cbk ∷ Ran ∷ Fail Sec ∷ Clf ∷ Rlg ∷ Rsc ∷ Blo ∷ Ubl ∷ Bla ∷ []
+columns = Iam ∷ Acm 0 ∷ Anc ∷ Ann ∷ Cbk ∷ Clf ∷ Ran ∷ Rlg ∷ Blo ∷ Bla ∷ Ubl ∷ Uba ∷ Rsc ∷ Fail Sec ∷ []
 
--- ANC and ANN have a column, the failures one, BLA and UBA one
 abbrev pub column : Signal → ℕ
 column Iam = 0
 column (Acm octet) = 1
 column Anc = 2
-column Ann = 2
-column Cbk = 3
-column Ran = 4
-column (Fail f) = 5
-column Clf = 6
+column Ann = 3
+column Cbk = 4
+column Clf = 5
+column Ran = 6
 column Rlg = 7
-column Rsc = 8
-column Blo = 9
+column Blo = 8
+column Bla = 9
 column Ubl = 10
-column Bla = 11
 column Uba = 11
+column Rsc = 12
+column (Fail f) = 13
 
 abbrev pub place : (c : Bool) → (state : ℕ) → Signal → ℕ
 place c s sig = column sig * 26 + s * 2 + cond c 0 1

@@ -18,7 +18,7 @@ const COLUMN: usize = 26;
 
 // A line an entry: its signal, its state, and whether our end controls the circuit (c) or not (n). The first digit is the new state; the second is the
 // indication where nothing is sent, and a is CLF with 10, b CLF with 6, c RLG with 0, d RLG with 5, e RLG with 6.
-const CALLS: [u8; 312] = [
+const CALLS: [u8; 364] = [
     0x61, // IAM in 0 c
     0x61, // IAM in 0 n
     0x17, // IAM in 1 c
@@ -71,32 +71,58 @@ const CALLS: [u8; 312] = [
     0xb7, // ACM in 11 n
     0xc7, // ACM in 12 c
     0xc7, // ACM in 12 n
-    0x07, // ANC, ANN in 0 c
-    0x07, // ANC, ANN in 0 n
-    0x17, // ANC, ANN in 1 c
-    0x17, // ANC, ANN in 1 n
-    0x33, // ANC, ANN in 2 c
-    0x33, // ANC, ANN in 2 n
-    0x37, // ANC, ANN in 3 c
-    0x37, // ANC, ANN in 3 n
-    0x47, // ANC, ANN in 4 c
-    0x47, // ANC, ANN in 4 n
-    0x57, // ANC, ANN in 5 c
-    0x57, // ANC, ANN in 5 n
-    0x67, // ANC, ANN in 6 c
-    0x67, // ANC, ANN in 6 n
-    0x77, // ANC, ANN in 7 c
-    0x77, // ANC, ANN in 7 n
-    0x87, // ANC, ANN in 8 c
-    0x87, // ANC, ANN in 8 n
-    0x97, // ANC, ANN in 9 c
-    0x97, // ANC, ANN in 9 n
-    0xa7, // ANC, ANN in 10 c
-    0xa7, // ANC, ANN in 10 n
-    0xb7, // ANC, ANN in 11 c
-    0xb7, // ANC, ANN in 11 n
-    0xc7, // ANC, ANN in 12 c
-    0xc7, // ANC, ANN in 12 n
+    0x07, // ANC in 0 c
+    0x07, // ANC in 0 n
+    0x17, // ANC in 1 c
+    0x17, // ANC in 1 n
+    0x33, // ANC in 2 c
+    0x33, // ANC in 2 n
+    0x37, // ANC in 3 c
+    0x37, // ANC in 3 n
+    0x47, // ANC in 4 c
+    0x47, // ANC in 4 n
+    0x57, // ANC in 5 c
+    0x57, // ANC in 5 n
+    0x67, // ANC in 6 c
+    0x67, // ANC in 6 n
+    0x77, // ANC in 7 c
+    0x77, // ANC in 7 n
+    0x87, // ANC in 8 c
+    0x87, // ANC in 8 n
+    0x97, // ANC in 9 c
+    0x97, // ANC in 9 n
+    0xa7, // ANC in 10 c
+    0xa7, // ANC in 10 n
+    0xb7, // ANC in 11 c
+    0xb7, // ANC in 11 n
+    0xc7, // ANC in 12 c
+    0xc7, // ANC in 12 n
+    0x07, // ANN in 0 c
+    0x07, // ANN in 0 n
+    0x17, // ANN in 1 c
+    0x17, // ANN in 1 n
+    0x33, // ANN in 2 c
+    0x33, // ANN in 2 n
+    0x37, // ANN in 3 c
+    0x37, // ANN in 3 n
+    0x47, // ANN in 4 c
+    0x47, // ANN in 4 n
+    0x57, // ANN in 5 c
+    0x57, // ANN in 5 n
+    0x67, // ANN in 6 c
+    0x67, // ANN in 6 n
+    0x77, // ANN in 7 c
+    0x77, // ANN in 7 n
+    0x87, // ANN in 8 c
+    0x87, // ANN in 8 n
+    0x97, // ANN in 9 c
+    0x97, // ANN in 9 n
+    0xa7, // ANN in 10 c
+    0xa7, // ANN in 10 n
+    0xb7, // ANN in 11 c
+    0xb7, // ANN in 11 n
+    0xc7, // ANN in 12 c
+    0xc7, // ANN in 12 n
     0x07, // CBK in 0 c
     0x07, // CBK in 0 n
     0x17, // CBK in 1 c
@@ -123,58 +149,6 @@ const CALLS: [u8; 312] = [
     0xb7, // CBK in 11 n
     0xc7, // CBK in 12 c
     0xc7, // CBK in 12 n
-    0x07, // RAN in 0 c
-    0x07, // RAN in 0 n
-    0x17, // RAN in 1 c
-    0x17, // RAN in 1 n
-    0x27, // RAN in 2 c
-    0x27, // RAN in 2 n
-    0x37, // RAN in 3 c
-    0x37, // RAN in 3 n
-    0x33, // RAN in 4 c
-    0x33, // RAN in 4 n
-    0x57, // RAN in 5 c
-    0x57, // RAN in 5 n
-    0x67, // RAN in 6 c
-    0x67, // RAN in 6 n
-    0x77, // RAN in 7 c
-    0x77, // RAN in 7 n
-    0x87, // RAN in 8 c
-    0x87, // RAN in 8 n
-    0x97, // RAN in 9 c
-    0x97, // RAN in 9 n
-    0xa7, // RAN in 10 c
-    0xa7, // RAN in 10 n
-    0xb7, // RAN in 11 c
-    0xb7, // RAN in 11 n
-    0xc7, // RAN in 12 c
-    0xc7, // RAN in 12 n
-    0x07, // a failure in 0 c
-    0x07, // a failure in 0 n
-    0x5a, // a failure in 1 c
-    0x5a, // a failure in 1 n
-    0x5a, // a failure in 2 c
-    0x5a, // a failure in 2 n
-    0x5a, // a failure in 3 c
-    0x5a, // a failure in 3 n
-    0x5a, // a failure in 4 c
-    0x5a, // a failure in 4 n
-    0x57, // a failure in 5 c
-    0x57, // a failure in 5 n
-    0x67, // a failure in 6 c
-    0x67, // a failure in 6 n
-    0x77, // a failure in 7 c
-    0x77, // a failure in 7 n
-    0x87, // a failure in 8 c
-    0x87, // a failure in 8 n
-    0x97, // a failure in 9 c
-    0x97, // a failure in 9 n
-    0xa7, // a failure in 10 c
-    0xa7, // a failure in 10 n
-    0xb7, // a failure in 11 c
-    0xb7, // a failure in 11 n
-    0xc7, // a failure in 12 c
-    0xc7, // a failure in 12 n
     0x0c, // CLF in 0 c
     0x0c, // CLF in 0 n
     0x17, // CLF in 1 c
@@ -201,6 +175,32 @@ const CALLS: [u8; 312] = [
     0x0d, // CLF in 11 n
     0x0d, // CLF in 12 c
     0x0d, // CLF in 12 n
+    0x07, // RAN in 0 c
+    0x07, // RAN in 0 n
+    0x17, // RAN in 1 c
+    0x17, // RAN in 1 n
+    0x27, // RAN in 2 c
+    0x27, // RAN in 2 n
+    0x37, // RAN in 3 c
+    0x37, // RAN in 3 n
+    0x33, // RAN in 4 c
+    0x33, // RAN in 4 n
+    0x57, // RAN in 5 c
+    0x57, // RAN in 5 n
+    0x67, // RAN in 6 c
+    0x67, // RAN in 6 n
+    0x77, // RAN in 7 c
+    0x77, // RAN in 7 n
+    0x87, // RAN in 8 c
+    0x87, // RAN in 8 n
+    0x97, // RAN in 9 c
+    0x97, // RAN in 9 n
+    0xa7, // RAN in 10 c
+    0xa7, // RAN in 10 n
+    0xb7, // RAN in 11 c
+    0xb7, // RAN in 11 n
+    0xc7, // RAN in 12 c
+    0xc7, // RAN in 12 n
     0x07, // RLG in 0 c
     0x07, // RLG in 0 n
     0x17, // RLG in 1 c
@@ -227,32 +227,6 @@ const CALLS: [u8; 312] = [
     0xb7, // RLG in 11 n
     0x05, // RLG in 12 c
     0x05, // RLG in 12 n
-    0x0c, // RSC in 0 c
-    0x0c, // RSC in 0 n
-    0x5b, // RSC in 1 c
-    0x5b, // RSC in 1 n
-    0x5a, // RSC in 2 c
-    0x5a, // RSC in 2 n
-    0x5a, // RSC in 3 c
-    0x5a, // RSC in 3 n
-    0x5a, // RSC in 4 c
-    0x5a, // RSC in 4 n
-    0x57, // RSC in 5 c
-    0x57, // RSC in 5 n
-    0x0d, // RSC in 6 c
-    0x0d, // RSC in 6 n
-    0x0d, // RSC in 7 c
-    0x0d, // RSC in 7 n
-    0x0d, // RSC in 8 c
-    0x0d, // RSC in 8 n
-    0x0d, // RSC in 9 c
-    0x0d, // RSC in 9 n
-    0x0d, // RSC in 10 c
-    0x0d, // RSC in 10 n
-    0x0d, // RSC in 11 c
-    0x0d, // RSC in 11 n
-    0xcc, // RSC in 12 c
-    0xcc, // RSC in 12 n
     0x00, // BLO in 0 c
     0x00, // BLO in 0 n
     0x5b, // BLO in 1 c
@@ -279,6 +253,32 @@ const CALLS: [u8; 312] = [
     0xb0, // BLO in 11 n
     0xc0, // BLO in 12 c
     0xc0, // BLO in 12 n
+    0x00, // BLA in 0 c
+    0x00, // BLA in 0 n
+    0x10, // BLA in 1 c
+    0x10, // BLA in 1 n
+    0x20, // BLA in 2 c
+    0x20, // BLA in 2 n
+    0x30, // BLA in 3 c
+    0x30, // BLA in 3 n
+    0x40, // BLA in 4 c
+    0x40, // BLA in 4 n
+    0x50, // BLA in 5 c
+    0x50, // BLA in 5 n
+    0x60, // BLA in 6 c
+    0x60, // BLA in 6 n
+    0x70, // BLA in 7 c
+    0x70, // BLA in 7 n
+    0x80, // BLA in 8 c
+    0x80, // BLA in 8 n
+    0x90, // BLA in 9 c
+    0x90, // BLA in 9 n
+    0xa0, // BLA in 10 c
+    0xa0, // BLA in 10 n
+    0xb0, // BLA in 11 c
+    0xb0, // BLA in 11 n
+    0xc0, // BLA in 12 c
+    0xc0, // BLA in 12 n
     0x00, // UBL in 0 c
     0x00, // UBL in 0 n
     0x10, // UBL in 1 c
@@ -305,53 +305,105 @@ const CALLS: [u8; 312] = [
     0xb0, // UBL in 11 n
     0xc0, // UBL in 12 c
     0xc0, // UBL in 12 n
-    0x00, // BLA, UBA in 0 c
-    0x00, // BLA, UBA in 0 n
-    0x10, // BLA, UBA in 1 c
-    0x10, // BLA, UBA in 1 n
-    0x20, // BLA, UBA in 2 c
-    0x20, // BLA, UBA in 2 n
-    0x30, // BLA, UBA in 3 c
-    0x30, // BLA, UBA in 3 n
-    0x40, // BLA, UBA in 4 c
-    0x40, // BLA, UBA in 4 n
-    0x50, // BLA, UBA in 5 c
-    0x50, // BLA, UBA in 5 n
-    0x60, // BLA, UBA in 6 c
-    0x60, // BLA, UBA in 6 n
-    0x70, // BLA, UBA in 7 c
-    0x70, // BLA, UBA in 7 n
-    0x80, // BLA, UBA in 8 c
-    0x80, // BLA, UBA in 8 n
-    0x90, // BLA, UBA in 9 c
-    0x90, // BLA, UBA in 9 n
-    0xa0, // BLA, UBA in 10 c
-    0xa0, // BLA, UBA in 10 n
-    0xb0, // BLA, UBA in 11 c
-    0xb0, // BLA, UBA in 11 n
-    0xc0, // BLA, UBA in 12 c
-    0xc0, // BLA, UBA in 12 n
+    0x00, // UBA in 0 c
+    0x00, // UBA in 0 n
+    0x10, // UBA in 1 c
+    0x10, // UBA in 1 n
+    0x20, // UBA in 2 c
+    0x20, // UBA in 2 n
+    0x30, // UBA in 3 c
+    0x30, // UBA in 3 n
+    0x40, // UBA in 4 c
+    0x40, // UBA in 4 n
+    0x50, // UBA in 5 c
+    0x50, // UBA in 5 n
+    0x60, // UBA in 6 c
+    0x60, // UBA in 6 n
+    0x70, // UBA in 7 c
+    0x70, // UBA in 7 n
+    0x80, // UBA in 8 c
+    0x80, // UBA in 8 n
+    0x90, // UBA in 9 c
+    0x90, // UBA in 9 n
+    0xa0, // UBA in 10 c
+    0xa0, // UBA in 10 n
+    0xb0, // UBA in 11 c
+    0xb0, // UBA in 11 n
+    0xc0, // UBA in 12 c
+    0xc0, // UBA in 12 n
+    0x0c, // RSC in 0 c
+    0x0c, // RSC in 0 n
+    0x5b, // RSC in 1 c
+    0x5b, // RSC in 1 n
+    0x5a, // RSC in 2 c
+    0x5a, // RSC in 2 n
+    0x5a, // RSC in 3 c
+    0x5a, // RSC in 3 n
+    0x5a, // RSC in 4 c
+    0x5a, // RSC in 4 n
+    0x57, // RSC in 5 c
+    0x57, // RSC in 5 n
+    0x0d, // RSC in 6 c
+    0x0d, // RSC in 6 n
+    0x0d, // RSC in 7 c
+    0x0d, // RSC in 7 n
+    0x0d, // RSC in 8 c
+    0x0d, // RSC in 8 n
+    0x0d, // RSC in 9 c
+    0x0d, // RSC in 9 n
+    0x0d, // RSC in 10 c
+    0x0d, // RSC in 10 n
+    0x0d, // RSC in 11 c
+    0x0d, // RSC in 11 n
+    0xcc, // RSC in 12 c
+    0xcc, // RSC in 12 n
+    0x07, // a failure in 0 c
+    0x07, // a failure in 0 n
+    0x5a, // a failure in 1 c
+    0x5a, // a failure in 1 n
+    0x5a, // a failure in 2 c
+    0x5a, // a failure in 2 n
+    0x5a, // a failure in 3 c
+    0x5a, // a failure in 3 n
+    0x5a, // a failure in 4 c
+    0x5a, // a failure in 4 n
+    0x57, // a failure in 5 c
+    0x57, // a failure in 5 n
+    0x67, // a failure in 6 c
+    0x67, // a failure in 6 n
+    0x77, // a failure in 7 c
+    0x77, // a failure in 7 n
+    0x87, // a failure in 8 c
+    0x87, // a failure in 8 n
+    0x97, // a failure in 9 c
+    0x97, // a failure in 9 n
+    0xa7, // a failure in 10 c
+    0xa7, // a failure in 10 n
+    0xb7, // a failure in 11 c
+    0xb7, // a failure in 11 n
+    0xc7, // a failure in 12 c
+    0xc7, // a failure in 12 n
 ];
 
 // Which column a signal has.
 fn column(s: Signal) -> usize
-    ensures { λ r. ⌜ (r ≡ column s) × (r < 12) ⌝ }
+    ensures { λ r. ⌜ (r ≡ column s) × (r < 14) ⌝ }
 {
     match s {
         Signal::Iam => 0,
         Signal::Acm(_) => 1,
         Signal::Anc => 2,
-        Signal::Ann => 2,
-        Signal::Cbk => 3,
-        Signal::Clf => 6,
-        Signal::Ran => 4,
+        Signal::Ann => 3,
+        Signal::Cbk => 4,
+        Signal::Clf => 5,
+        Signal::Ran => 6,
         Signal::Rlg => 7,
-        Signal::Blo => 9,
-        Signal::Bla => 11,
+        Signal::Blo => 8,
+        Signal::Bla => 9,
         Signal::Ubl => 10,
         Signal::Uba => 11,
-        Signal::Rsc => 8,
-        Signal::Fail(_) => 5,
+        Signal::Rsc => 12,
+        Signal::Fail(_) => 13,
     }
 }
 
@@ -363,14 +415,14 @@ fn role(con: bool) -> usize
 
 fn place(con: bool, state: u8, s: Signal) -> usize
     requires { ⌜ state ≤ 12 ⌝ }
-    ensures { λ r. ⌜ (r ≡ place con state s) × (r < 312) ⌝ }
+    ensures { λ r. ⌜ (r ≡ place con state s) × (r < 364) ⌝ }
 {
     column(s) * COLUMN + (state as usize) * 2 + role(con)
 }
 
 // The table's number at a place, by what it means.
 fn entry(at: usize) -> u8
-    requires { ⌜ at < 312 ⌝ }
+    requires { ⌜ at < 364 ⌝ }
     ensures { λ r. ⌜ meaning r ≡ callAt at ⌝ }
 {
     CALLS[at]

@@ -3,7 +3,7 @@
 use mathlib.Core.Path.{_≡_, refl, sym, ap, _∙_, subst}
 use mathlib.Core.Bool.{Bool, true, false, cond}
 use mathlib.Core.List.{List, [], _∷_}
-use Prim.Native.Nat.{ℕ, _<_, _≤_}
+use Prim.Native.Nat.{ℕ, _/_, _%_, _^_, _<_, _≤_}
 use borrow.Author.Tests.{ne-eqb, eqb-true}
 use lib.Dec.{T, eqb, lit<, lit≤}
 use Rattle.circuit.specs.declared.Failure.{Failure}
@@ -14,18 +14,51 @@ use Rattle.codes.specs.declared.NamedFailure.the-variants.{IsFailure}
 use Rattle.codes.specs.declared.Named.{Named}
 use Rattle.codes.specs.declared.Named.the-variants.{Known, Unknown}
 use Rattle.codes.specs.Headings.{failureHeading, headingOf, amongFailures, failing, among, signalOf}
+use Rattle.circuit.proofs.Every.{atBelow, alike, alikeSame}
+use Rattle.formats.specs.Way.{groupOf}
 use Rattle.formats.specs.Messages.{isKnown, listed, isIam, isAcm, fixedLength}
 use native.Mathlib.Omega.{arith}
 
-pub six : (h : ℕ) (n : Named) (s : Signal) → (h ≡ 0x11 → ⊥) → (h ≡ 0x14 → ⊥) → n ≡ signalOf h 0 → n ≡ Known s
-    → 6 ≡ cond (listed h) (fixedLength h) 0
-six h n s a b p q =
-    let e : listed h ≡ true = ap isKnown (sym p ∙ q) in
+pub six : (h : ℕ) → (h ≡ 0x11 → ⊥) → (h ≡ 0x14 → ⊥) → listed h ≡ true → 6 ≡ cond (listed h) (fixedLength h) 0
+six h a b e =
     let f : fixedLength h ≡ 6 = rw (ne-eqb h 0x11 a, ne-eqb h 0x14 b) in
     sym (ap (λ (t : Bool). cond t (fixedLength h) 0) e ∙ f)
 
-pub none : (h : ℕ) (n : Named) → n ≡ signalOf h 0 → n ≡ Unknown → 0 ≡ cond (listed h) (fixedLength h) 0
-none h n p q = sym (ap (λ (t : Bool). cond t (fixedLength h) 0) (ap isKnown (sym p ∙ q)))
+pub none : (h : ℕ) → listed h ≡ false → 0 ≡ cond (listed h) (fixedLength h) 0
+none h e = sym (ap (λ (t : Bool). cond t (fixedLength h) 0) e)
+
+-- the headings as the program has them, by H0 the set of H1
+abbrev inSet : ℕ → Bool
+inSet h = eqb (groupOf (h % 16) / 2 ^ (h / 16) % 2) 1
+
+pub bySet : (h : ℕ) → h ≤ 255 → inSet h ≡ listed h
+bySet h low = alikeSame _ _ (atBelow 256 (λ h. alike (inSet h) (listed h)) tt h (omega arith))
+
+pub large : (h : ℕ) → 255 < h → listed h ≡ false
+large h l =
+    simp (
+      ne-eqb h 0x11 (λ e. omega arith),
+      ne-eqb h 0x14 (λ e. omega arith),
+      ne-eqb h 0x16 (λ e. omega arith),
+      ne-eqb h 0x26 (λ e. omega arith),
+      ne-eqb h 0x36 (λ e. omega arith),
+      ne-eqb h 0x46 (λ e. omega arith),
+      ne-eqb h 0x56 (λ e. omega arith),
+      ne-eqb h 0x17 (λ e. omega arith),
+      ne-eqb h 0x27 (λ e. omega arith),
+      ne-eqb h 0x37 (λ e. omega arith),
+      ne-eqb h 0x47 (λ e. omega arith),
+      ne-eqb h 0x57 (λ e. omega arith),
+      ne-eqb h 0x77 (λ e. omega arith),
+      ne-eqb h 0x15 (λ e. omega arith),
+      ne-eqb h 0x25 (λ e. omega arith),
+      ne-eqb h 0x35 (λ e. omega arith),
+      ne-eqb h 0x45 (λ e. omega arith),
+      ne-eqb h 0x55 (λ e. omega arith),
+      ne-eqb h 0x65 (λ e. omega arith),
+      ne-eqb h 0x75 (λ e. omega arith),
+      ne-eqb h 0x85 (λ e. omega arith),
+      ne-eqb h 0x95 (λ e. omega arith))
 
 -- a heading of no length is one that is not listed
 positive : (h : ℕ) → fixedLength h ≡ 0 → ⊥

@@ -1,10 +1,10 @@
 // What the reader and the writer of messages share (Q.723, "Formats and codes"; document 01, "Messages on the link"): how long a message is by
 // its heading, and which address signals are refused.
-use codes::Named;
 ghost use mathlib.Core.Path.{_≡_};
 ghost use mathlib.Core.Bool.{cond};
 ghost use Rattle.formats.specs.Octets.{badCode, badCodes};
 ghost use Rattle.formats.specs.Messages.{fixedLength, listed};
+ghost use Rattle.formats.specs.Way.{groupOf};
 
 // The headings of the two messages that have fields of their own.
 pub const IAM: u32 = 0x11;
@@ -29,6 +29,30 @@ pub const IAM_OCTETS: usize = 9;
 // The address signal that ends the address.
 const ST: u8 = 15;
 
+// The headings that begin with H0, as Q.723 groups them, as a set: H1 is in it where the bit worth 2^H1 is set.
+fn group_of(h0: u32) -> u32
+    ensures { λ r. ⌜ r ≡ groupOf h0 ⌝ }
+{
+    match h0 {
+        1 => 0x002,
+        4 => 0x002,
+        5 => 0x3fe,
+        6 => 0x03e,
+        7 => 0x0be,
+        _ => 0,
+    }
+}
+
+// Whether a signal has the heading. A set is asked: which signal it is does not matter here.
+fn listed(heading: u32) -> bool
+    ensures { λ r. ⌜ r ≡ listed heading ⌝ }
+{
+    if 255 < heading {
+        return false;
+    }
+    (group_of(heading % 16) >> (heading / 16)) % 2 == 1
+}
+
 // The octets that a message with the heading has before its address signals, 0 where no signal has the heading.
 pub fn fixed_length(heading: u32) -> usize
     ensures { λ r. ⌜ r ≡ cond (listed heading) (fixedLength heading) 0 ⌝ }
@@ -39,10 +63,10 @@ pub fn fixed_length(heading: u32) -> usize
     if heading == ACM {
         return ACM_OCTETS;
     }
-    match codes::signal_of(heading, 0) {
-        Named::Known(_) => PLAIN_OCTETS,
-        Named::Unknown => 0,
+    if listed(heading) {
+        return PLAIN_OCTETS;
     }
+    0
 }
 
 // Whether a code is spare, or is ST where more signals follow.
