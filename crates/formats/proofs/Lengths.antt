@@ -58,7 +58,8 @@ large h l =
       ne-eqb h 0x65 (λ e. omega arith),
       ne-eqb h 0x75 (λ e. omega arith),
       ne-eqb h 0x85 (λ e. omega arith),
-      ne-eqb h 0x95 (λ e. omega arith))
+      ne-eqb h 0x95 (λ e. omega arith),
+    )
 
 -- a heading of no length is one that is not listed
 positive : (h : ℕ) → fixedLength h ≡ 0 → ⊥

@@ -7,7 +7,7 @@ use Prim.Native.Nat.{ℕ, _+_, _/_, _%_, _<_, _≤_}
 use native.Mathlib.Omega.{arith}
 use lib.Dec.{T, eqb, leb, ltb, leb→le}
 use lib.ListN.{length}
-use borrow.Author.Tests.{le-leb, lt-leb, leb-true, leb-false, eqb-true, eqb-false, ne-eqb}
+use borrow.Author.Tests.{le-leb, lt-leb, leb-true, leb-false, eqb-true, eqb-false, eq-eqb, ne-eqb}
 use Rattle.circuit.specs.declared.Outcome.{Outcome}
 use Rattle.circuit.specs.Records.{valid}
 use Rattle.circuit.specs.Rows as Rows
@@ -40,11 +40,14 @@ module _ (table : List ℕ) (cic s f w : ℕ) where
   pub releases : counterIn table < largest → freeing table cic s f w ≡ leaving w (ranked (putShown table cic w) cic (counterIn table + 1))
   releases h = simp (lt-leb _ _ h)
 
-  pub goes : (not (eqb s 0) && eqb (w / 0x10000 % 256) 0) ≡ true → accepted table cic s f w ≡ freeing table cic s f w
-  goes e = simp e
+  pub goes : (s ≡ 0 → ⊥) → w / 0x10000 % 256 ≡ 0 → accepted table cic s f w ≡ freeing table cic s f w
+  goes n e = simp (ne-eqb _ _ n, eq-eqb _ _ e)
 
-  pub stays : (not (eqb s 0) && eqb (w / 0x10000 % 256) 0) ≡ false → accepted table cic s f w ≡ leaving w (putShown table cic w)
-  stays e = simp e
+  pub wasIdle : s ≡ 0 → accepted table cic s f w ≡ leaving w (putShown table cic w)
+  wasIdle e = simp (eq-eqb _ _ e)
+
+  pub stays : (s ≡ 0 → ⊥) → (w / 0x10000 % 256 ≡ 0 → ⊥) → accepted table cic s f w ≡ leaving w (putShown table cic w)
+  stays n e = simp (ne-eqb _ _ n, ne-eqb _ _ e)
 
   pub takes : w % 256 ≡ 0 → landed table cic s f w ≡ accepted table cic s f w
   takes e = rw e
@@ -161,13 +164,20 @@ pub nothing : (n r : ℕ) (st : Step) (table after : List ℕ) → n < 256 → s
 nothing n r st table after h e p q =
     rw e (p, (subst (λ (k : ℕ). Unpacked k (refusal n 0 0)) (sym p) (refusalBack n 0 0 h (omega arith) (omega arith)), q))
 
+-- no group by its codes, or by its table's length
+pub badByCodes : (codes : Bool) (octets : ℕ) → codes ≡ true → (codes || badLength octets) ≡ true
+badByCodes codes octets e = rw e refl
+
+pub badByLength : (codes : Bool) (octets : ℕ) → badLength octets ≡ true → (codes || badLength octets) ≡ true
+badByLength true octets e = refl
+badByLength false octets e = e
+
+pub goodGroup : (codes : Bool) (octets : ℕ) → codes ≡ false → badLength octets ≡ false → (codes || badLength octets) ≡ false
+goodGroup codes octets c e = rw c e
+
 -- which circuits a table has, by where their records end
-wholeTable : (codes : Bool) (octets : ℕ) → (codes || badLength octets) ≡ false → badLength octets ≡ false
-wholeTable true octets e = absurd (subst T e tt)
-wholeTable false octets e = e
+pub hasNot : (octets i : ℕ) → badLength octets ≡ false → ltb octets (tableOctets i + 10) ≡ true → recordsIn octets ≤ i
+hasNot octets i g e = leb-true _ _ (sym (endsBefore octets i g) ∙ e)
 
-pub hasNot : (codes : Bool) (octets i : ℕ) → (codes || badLength octets) ≡ false → ltb octets (tableOctets i + 10) ≡ true → recordsIn octets ≤ i
-hasNot codes octets i g e = leb-true _ _ (sym (endsBefore octets i (wholeTable codes octets g)) ∙ e)
-
-pub has : (codes : Bool) (octets i : ℕ) → (codes || badLength octets) ≡ false → ltb octets (tableOctets i + 10) ≡ false → i < recordsIn octets
-has codes octets i g e = leb-false _ _ (sym (endsBefore octets i (wholeTable codes octets g)) ∙ e)
+pub has : (octets i : ℕ) → badLength octets ≡ false → ltb octets (tableOctets i + 10) ≡ false → i < recordsIn octets
+has octets i g e = leb-false _ _ (sym (endsBefore octets i g) ∙ e)

@@ -10,7 +10,21 @@ ghost use Rattle.answers.specs.Answers.{packed, Unpacked};
 ghost use Rattle.layout.specs.Layout.{recordsIn};
 ghost use Rattle.group.specs.Table.{stepIn};
 ghost use Rattle.group.specs.Way.{onCircuit};
-ghost use Rattle.group.specs.Landing.{freeing, accepted, landed};
+ghost use Rattle.group.specs.Landing.{putShown, freeing, accepted, landed};
+
+// The record that an answer shows is put at the circuit.
+fn store(table: &mut [u8], cic: Cic, answer: u64) -> u64
+    ensures answers { λ r. ⌜ r ≡ answer ⌝ }
+    ensures leaves { λ r. ⌜ now (table .exit) ≡ putShown (now (table .entry)) (cic .0) answer ⌝ }
+{
+    layout::put(
+        table,
+        cic,
+        answers::state_of(answer),
+        answers::flags_of(answer),
+    );
+    answer
+}
 
 // An event that frees the circuit: the counter goes up by one and the record takes it.
 fn free(table: &mut [u8], cic: Cic, state: u8, flags: u8, answer: u64) -> u64
@@ -21,15 +35,10 @@ fn free(table: &mut [u8], cic: Cic, state: u8, flags: u8, answer: u64) -> u64
     if words::LARGEST <= count {
         return answers::refused(names::COUNTER_FULL, state, flags);
     }
-    layout::put(
-        table,
-        cic,
-        answers::state_of(answer),
-        answers::flags_of(answer),
-    );
+    let taken = store(table, cic, answer);
     layout::put_counter(table, count + 1);
     layout::put_rank(table, cic, count + 1);
-    answer
+    taken
 }
 
 // An event that the circuit's step does not refuse, on a record in this state: one that takes it from another state to idle frees the circuit.
@@ -37,12 +46,13 @@ fn accept(table: &mut [u8], cic: Cic, state: u8, flags: u8, answer: u64) -> u64
     ensures answers { λ r. ⌜ r ≡ accepted (now (table .entry)) (cic .0) state flags answer .answer ⌝ }
     ensures leaves { λ r. ⌜ now (table .exit) ≡ accepted (now (table .entry)) (cic .0) state flags answer .table ⌝ }
 {
-    let new = answers::state_of(answer);
-    if circuit::both(state != names::IDLE, new == names::IDLE) {
+    if state == names::IDLE {
+        return store(table, cic, answer);
+    }
+    if answers::state_of(answer) == names::IDLE {
         return free(table, cic, state, flags, answer);
     }
-    layout::put(table, cic, new, answers::flags_of(answer));
-    answer
+    store(table, cic, answer)
 }
 
 // What one circuit's step answers is put into the table.
@@ -84,10 +94,10 @@ pub fn step(
     ensures unpacks { λ r. ⌜ Unpacked r (stepIn (own .0) (far .0) (now (table .entry)) (cic .0) (eventOf kind code detail) .answer) ⌝ }
     ensures leaves { λ r. ⌜ now (table .exit) ≡ stepIn (own .0) (far .0) (now (table .entry)) (cic .0) (eventOf kind code detail) .table ⌝ }
 {
-    if circuit::either(
-        circuit::bad_codes(own, far),
-        layout::bad_length(table.len()),
-    ) {
+    if circuit::bad_codes(own, far) {
+        return answers::refused(names::NO_SUCH_GROUP, 0, 0);
+    }
+    if layout::bad_length(table.len()) {
         return answers::refused(names::NO_SUCH_GROUP, 0, 0);
     }
     if layout::ends_before(table.len(), cic) {

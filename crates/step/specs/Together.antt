@@ -37,15 +37,18 @@ isIam (Fail f) = false
 abbrev pub marksPart : (state flags : ℕ) → Signal → Marked
 marksPart s f sig = cond (isIam sig && (eqb s 0 && own f)) (keptOut f) (onMarks f sig)
 
+-- what the marks send goes first
+abbrev pub together : Marked → Call → ℕ
+together m c =
+    cond (eqb (m .sends) 0) (word 0 (c .ind) (c .state) (m .flags) (c .sends) 0)
+    (word 0 (c .ind) (c .state) (m .flags) (m .sends) (c .sends))
+
 -- a signal that goes no further than the marks is discarded
-abbrev pub together : (state : ℕ) → Marked → Call → ℕ
-together s m c =
-    cond (m .stops) (word 0 7 s (m .flags) (m .sends) 0)
-    (cond (eqb (m .sends) 0) (word 0 (c .ind) (c .state) (m .flags) (c .sends) 0)
-    (word 0 (c .ind) (c .state) (m .flags) (m .sends) (c .sends)))
+abbrev pub behindMarks : (c : Bool) → (state : ℕ) → Signal → Marked → ℕ
+behindMarks c s sig m = cond (m .stops) (word 0 7 s (m .flags) (m .sends) 0) (together m (onCall c s sig))
 
 abbrev pub signalWay : (c : Bool) → (state flags : ℕ) → Signal → ℕ
-signalWay c s f sig = together s (marksPart s f sig) (onCall c s sig)
+signalWay c s f sig = behindMarks c s sig (marksPart s f sig)
 
 abbrev pub eventWay : (c : Bool) → (state flags : ℕ) → Event → ℕ
 eventWay c s f (Arrives sig) = signalWay c s f sig

@@ -8,7 +8,7 @@ ghost use mathlib.Core.Path.{_≡_};
 ghost use Rattle.codes.specs.Numbers.{eventOf};
 ghost use Rattle.answers.specs.Answers.{packed, Unpacked};
 ghost use Rattle.step.specs.Answers.{answerTo};
-ghost use Rattle.step.specs.Together.{isIam, marksPart, together, signalWay, eventWay, foundWay};
+ghost use Rattle.step.specs.Together.{isIam, marksPart, together, behindMarks, signalWay, eventWay, foundWay};
 
 fn is_iam(s: Signal) -> bool
     ensures { λ r. ⌜ r ≡ isIam s ⌝ }
@@ -44,12 +44,9 @@ fn marks_part(state: u8, flags: u8, s: Signal) -> Marked
 }
 
 // What the marks send goes out before what the call sends.
-fn together(state: u8, m: Marked, c: Call) -> u64
-    ensures { λ r. ⌜ r ≡ together state m c ⌝ }
+fn together(m: Marked, c: Call) -> u64
+    ensures { λ r. ⌜ r ≡ together m c ⌝ }
 {
-    if m.stops {
-        return answers::sent(m.sends, state, m.flags, names::IND_DISCARDED);
-    }
     if m.sends == names::NO_SIGNAL {
         answers::sent(c.sends, c.state, m.flags, c.ind)
     } else {
@@ -57,12 +54,20 @@ fn together(state: u8, m: Marked, c: Call) -> u64
     }
 }
 
+// What comes behind the marks: a signal that goes no further than they do is discarded.
+fn behind_marks(con: bool, state: u8, s: Signal, m: Marked) -> u64
+    ensures { λ r. ⌜ r ≡ behindMarks con state s m ⌝ }
+{
+    if m.stops {
+        return answers::sent(m.sends, state, m.flags, names::IND_DISCARDED);
+    }
+    together(m, calls::on_signal(con, state, s))
+}
+
 fn on_signal(con: bool, state: u8, flags: u8, s: Signal) -> u64
     ensures { λ r. ⌜ r ≡ signalWay con state flags s ⌝ }
 {
-    let m = marks_part(state, flags, s);
-    let c = calls::on_signal(con, state, s);
-    together(state, m, c)
+    behind_marks(con, state, s, marks_part(state, flags, s))
 }
 
 fn on_event(con: bool, state: u8, flags: u8, e: Event) -> u64

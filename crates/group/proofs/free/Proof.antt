@@ -21,14 +21,8 @@ returns c =
     let n = c .before .before in let a = c .before .before .before .before .before .args in
     met (spends (now (a .table)) (a .cic .0) (a .state) (a .flags) (a .answer) (rw (n .counter-in .ensures) at (c .before .if1 .taken))) (c .refused .ensures) refl
 
-state-of-requires : tie.Need-state-of-requires
-state-of-requires c κs = search needs
-
-flags-of-requires : tie.Need-flags-of-requires
-flags-of-requires c κs = search needs
-
-put-requires : tie.Need-put-requires
-put-requires c κs = search needs
+store-requires : tie.Need-store-requires
+store-requires c κs = search needs
 
 add-put-counter : tie.Need-add-put-counter
 add-put-counter c = search needs
@@ -47,11 +41,11 @@ same-length-2 c = search needs
 
 returns-2 : tie.Need-returns-2
 returns-2 c =
-    let p = c .before .before .before .before .before .before .before .before .before .before in let n = c .before .before .before .before .before .before .before .before .before .before .before .before .before .before .before in let a = c .before .before .before .before .before .before .before .before .before .before .before .before .before .before .before .before .before .before .args in
+    let s = c .before .before .before .before .before .before .before .before .before .before .store in let n = c .before .before .before .before .before .before .before .before .before .before .before .before .before in let a = c .before .before .before .before .before .before .before .before .before .before .before .before .before .before .before .before .args in
     met
-    (releases (now (a .table)) (a .cic .0) (a .state) (a .flags) (a .answer) (rw (n .counter-in .ensures) at (c .before .before .before .before .before .before .before .before .before .before .before .before .before .before .if1 .left)))
-    refl
-    (rw (c .before .before .put-rank .ensures, c .before .before .before .before .before .before .put-counter .ensures, p .put .ensures, p .before .flags-of .ensures, p .before .before .state-of .ensures, n .counter-in .ensures))
+    (releases (now (a .table)) (a .cic .0) (a .state) (a .flags) (a .answer) (rw (n .counter-in .ensures) at (c .before .before .before .before .before .before .before .before .before .before .before .before .if1 .left)))
+    (s .ensures .0)
+    (rw (c .before .before .put-rank .ensures, c .before .before .before .before .before .before .put-counter .ensures, s .ensures .1, n .counter-in .ensures))
 
 pub free-spec : {M : Type 1} → statement M
 free-spec =
@@ -61,9 +55,7 @@ free-spec =
     refused-requires
     same-length
     returns
-    state-of-requires
-    flags-of-requires
-    put-requires
+    store-requires
     add-put-counter
     put-counter-requires
     add-put-rank

@@ -8,21 +8,14 @@ use Rattle.step.proofs.together.Tie as tie
 sent-requires : tie.Need-sent-requires
 sent-requires c κs = search needs
 
-returns : tie.Need-returns
-returns c = simp (c .before .if1 .taken, c .sent .ensures)
-
-sent-requires-2 : tie.Need-sent-requires-2
-sent-requires-2 c κs = search needs
-
 answer-requires : tie.Need-answer-requires
 answer-requires c κs = search needs
 
-returns-2 : tie.Need-returns-2
-returns-2 c = simp (c .before .before .before .if1 .left, eq-eqb _ _ (c .before .if2 .taken), c .sent2 .ensures)
+returns : tie.Need-returns
+returns c = simp (eq-eqb _ _ (c .before .if1 .taken), c .sent .ensures)
 
-returns-3 : tie.Need-returns-3
-returns-3 c = simp (c .before .before .before .if1 .left, ne-eqb _ _ (c .before .if2 .left), c .answer .ensures)
+returns-2 : tie.Need-returns-2
+returns-2 c = simp (ne-eqb _ _ (c .before .if1 .left), c .answer .ensures)
 
 pub together-spec : {M : Type 1} → statement M
-together-spec =
-    tie.close (tie.spec sent-requires returns sent-requires-2 answer-requires returns-2 returns-3)
+together-spec = tie.close (tie.spec sent-requires answer-requires returns returns-2)
