@@ -5,16 +5,18 @@ use mathlib.Core.Bool.{Bool, true, false, cond, _&&_}
 use mathlib.Core.List.{List}
 use Prim.Native.Nat.{ℕ, _+_, _*_, _/_, _%_, _<_, _≤_}
 use native.Mathlib.Omega.{arith}
-use lib.Dec.{T, eqb, eqb→eq}
+use lib.Dec.{T, eqb, eqb→eq, leb, leb→le}
 use lib.ListN.{getD}
+use borrow.Author.Tests.{le-leb}
 use Rattle.circuit.specs.declared.Signal.{Signal}
 use Rattle.circuit.specs.declared.Signal.the-variants.{Iam, Acm, Anc, Ann, Cbk, Clf, Ran, Rlg, Blo, Bla, Ubl, Uba, Rsc, Fail}
 use Rattle.circuit.specs.Rows.{first}
-use Rattle.circuit.specs.Every.{eachBelow}
-use Rattle.circuit.proofs.Every.{left, right, atBelow, eachBool, atBool}
+use Rattle.circuit.specs.Every.{implies, eachBelow}
+use Rattle.circuit.proofs.Every.{left, right, then, atBelow, eachBool, atBool}
 use Rattle.calls.specs.declared.Call.{Call}
 use Rattle.calls.proofs.Numbers.{numbers}
-use Rattle.calls.specs.Calls.{call, meaning, isNumber, columns, column, place, callAt, onCall}
+use Rattle.signals.specs.Table.{onSignal}
+use Rattle.calls.specs.Calls.{call, callPart, unmarked, meaning, isNumber, columns, column, place, callAt, onCall}
 
 abbrev same : Call → Call → Bool
 same a b = eqb (a .state) (b .state) && (eqb (a .sends) (b .sends) && eqb (a .ind) (b .ind))
@@ -78,3 +80,29 @@ atPlace c s sig h =
     let signal : (column sig * 26 + s * 2 + cond c 0 1) / 26 ≡ column sig = omega arith in
     rw (state, signal) (rw role (rw (roleAt (column sig * 13 + s) c)
     (isSame _ _ (atBool (λ c. same (onCall c s (getD columns (column sig) Iam)) (onCall c s sig)) (atBelow 13 (λ s. eachBool (λ c. same (onCall c s (getD columns (column sig) Iam)) (onCall c s sig))) (shared sig) s (omega arith)) c))))
+
+-- the number of a call part: each number that exists comes back from its meaning, so that no two of them mean the same
+abbrev number : Call → ℕ
+number a =
+    a .state * 16
+    + cond (eqb (a .sends) 0) (a .ind) (cond (eqb (a .sends) 0x46) (cond (eqb (a .ind) 10) 0xa 0xb) (cond (eqb (a .ind) 0) 0xc (cond (eqb (a .ind) 5) 0xd 0xe)))
+
+abbrev comesBack : ℕ → Bool
+comesBack n = implies (isNumber n) (eqb (number (meaning n)) n)
+
+allBack : T (eachBelow 208 comesBack)
+unfolding meaning
+allBack = tt
+
+back : (n : ℕ) → T (isNumber n) → number (meaning n) ≡ n
+back n t =
+    let h : n / 16 ≤ 12 = leb→le (n / 16) 12 (left (leb (n / 16) 12) _ t) in
+    eqb→eq _ _ (then (isNumber n) _ (atBelow 208 comesBack allBack n (omega arith)) t)
+
+pub apart : (n m : ℕ) → T (isNumber n) → T (isNumber m) → meaning n ≡ meaning m → n ≡ m
+apart n m p q e = sym (back n p) ∙ ap number e ∙ back m q
+
+-- the call part of a state that exists
+pub isCallPart : (c : Bool) (s : ℕ) (sig : Signal) → s ≤ 12 → onCall c s sig ≡ callPart (onSignal c (unmarked s) sig)
+unfolding onCall
+isCallPart c s sig h = rw (le-leb s 12 h) refl

@@ -64,6 +64,16 @@ pub const COMMAND_NOT_ALLOWED: u8 = 5;
 
 pub const TIMER_NOT_RUNNING: u8 = 6;
 
+pub const WRONG_LENGTH: u8 = 7;
+
+pub const WRONG_LABEL: u8 = 8;
+
+pub const NO_SUCH_HEADING: u8 = 9;
+
+pub const WRONG_ADDRESS: u8 = 10;
+
+pub const OUTPUT_TOO_SHORT: u8 = 11;
+
 pub const BAD_RECORD: u8 = 12;
 
 pub const COUNTER_FULL: u8 = 13;

@@ -4,10 +4,13 @@
 -- Assumes nothing.
 use mathlib.Core.Path.{_≡_, sym, _∙_}
 use mathlib.Core.List.{List}
-use Prim.Native.Nat.{ℕ, _/_, _%_}
+use Prim.Native.Nat.{ℕ, _/_, _%_, _≤_}
 use denote.Ref.{now}
 use Rattle.codes.specs.Numbers as Numbers
 use Rattle.codes.specs.Headings as Headings
+use Rattle.signals.specs.Table.{onSignal}
+use Rattle.calls.specs.Calls.{callPart, unmarked}
+use Rattle.calls.proofs.Rule.{isCallPart}
 use Rattle.group.specs.Table.{stepIn}
 use Rattle.select.specs.Selection.{selectIn}
 use Rattle.writer.specs.Writing.{said}
@@ -319,11 +322,16 @@ ofTrace = (
   λ κs a x y s t h k. once (h .1 .0) (k .1 .0),
 )
 
--- THE ENTRIES FOR C
+-- THE TABLE OF CALLS, AND THE ENTRIES FOR C
 
 -- what a contract says
 abbrev pub Says : {K : Type 0} {A X E : K → Type 0} → (C P : (κs : K) → A κs → X κs → E κs → Type 0) → Type 0
 Says {K} {A} {X} {E} C P = (κs : K) (a : A κs) (x : X κs) (s : E κs) → C κs a x s → P κs a x s
+
+-- `calls::on_signal(con, state, s)`, which looks into the constant table (document 02, T-06): its answer is the call part of the printed row, the new
+-- state, the CLF or RLG that is sent, and the indication
+pub callsSay : Says onCall.Learnt (λ κs a x s. a .1 .0 ≤ 12 → x ≡ callPart (onSignal (a .0) (unmarked (a .1 .0)) (a .1 .1 .0)))
+callsSay κs a x s h low = h ∙ isCallPart (a .0) (a .1 .0) (a .1 .1 .0) low
 
 -- `tup_step(own, far, table, cic, kind, code, detail)`: the answer of the event on the table, whose fields come back from the number, octet by
 -- octet, and what the table holds then

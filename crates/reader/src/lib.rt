@@ -93,7 +93,7 @@ fn plain_fields(circuit: Cic, heading: u8, acm: u8) -> Fields
     ensures { λ r. ⌜ r ≡ plainFields (circuit .0) heading acm ⌝ }
 {
     Fields {
-        refusal: 0,
+        refusal: names::ACCEPTED,
         circuit: circuit,
         heading: heading,
         acm: acm,
@@ -110,25 +110,25 @@ fn read_iam(records: usize, circuit: Cic, octets: &[u8]) -> Fields
     ensures { λ r. ⌜ r ≡ bodyOf records iamHeading (now (octets .entry)) ⌝ }
 {
     if octets.len() < formats::IAM_OCTETS {
-        return refused(7);
+        return refused(names::WRONG_LENGTH);
     }
     let word = words::number(octets[7], octets[8], 0, 0, 0, 0, 0, 0);
     let count = (word / formats::COUNT_PLACE) as usize;
     if count == 0 {
-        return refused(10);
+        return refused(names::WRONG_ADDRESS);
     }
     if octets.len() != formats::IAM_OCTETS + (count + 1) / 2 {
-        return refused(7);
+        return refused(names::WRONG_LENGTH);
     }
     let codes = codes_in(octets, count);
     if formats::bad_codes(&codes[..count]) {
-        return refused(10);
+        return refused(names::WRONG_ADDRESS);
     }
     if records <= circuit.0 as usize {
-        return refused(2);
+        return refused(names::NO_SUCH_CIRCUIT);
     }
     Fields {
-        refusal: 0,
+        refusal: names::ACCEPTED,
         circuit: circuit,
         heading: formats::IAM as u8,
         acm: 0,
@@ -150,13 +150,13 @@ fn read_body(records: usize, circuit: Cic, octets: &[u8]) -> Fields
     }
     let fixed = formats::fixed_length(heading as u32);
     if fixed == 0 {
-        return refused(9);
+        return refused(names::NO_SUCH_HEADING);
     }
     if octets.len() != fixed {
-        return refused(7);
+        return refused(names::WRONG_LENGTH);
     }
     if records <= circuit.0 as usize {
-        return refused(2);
+        return refused(names::NO_SUCH_CIRCUIT);
     }
     if heading == formats::ACM as u8 {
         return plain_fields(circuit, heading, octets[6] % SPARE_BITS);
@@ -179,10 +179,10 @@ pub fn read_fields(own: PointCode, far: PointCode, records: usize, octets: &[u8]
     ensures { λ r. ⌜ r ≡ fieldsOf (own .0) (far .0) records (now (octets .entry)) ⌝ }
 {
     if circuit::bad_group(own, far, records) {
-        return refused(1);
+        return refused(names::NO_SUCH_GROUP);
     }
     if octets.len() < formats::PLAIN_OCTETS {
-        return refused(7);
+        return refused(names::WRONG_LENGTH);
     }
     let label = words::number(
         octets[0],
@@ -195,7 +195,7 @@ pub fn read_fields(own: PointCode, far: PointCode, records: usize, octets: &[u8]
         0,
     );
     if elsewhere(own, far, label) {
-        return refused(8);
+        return refused(names::WRONG_LABEL);
     }
     read_body(records, Cic((label / formats::CIC_PLACE) as u32), octets)
 }

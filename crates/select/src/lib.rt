@@ -33,7 +33,7 @@ fn taken(cic: u32, looked: u32) -> Selected
     ensures { λ r. ⌜ r ≡ taken cic looked ⌝ }
 {
     Selected {
-        refusal: 0,
+        refusal: names::ACCEPTED,
         cic: Cic(cic),
         looked: looked,
     }
@@ -93,7 +93,7 @@ fn conclude(theirs: u32, records: u32) -> Selected
     ensures { λ r. ⌜ r ≡ concluded theirs records ⌝ }
 {
     if theirs == records {
-        refused(14)
+        refused(names::NO_CIRCUIT)
     } else {
         taken(theirs, records)
     }
@@ -110,14 +110,14 @@ fn search(first: u32, table: &[u8], records: u32) -> Selected
     for i in 0..records {
         let at = layout::stored_at(table, Cic(i));
         if !layout::allowed(at.state, at.flags) {
-            return refused(12);
+            return refused(names::BAD_RECORD);
         }
         if !free(at) {
             continue;
         }
         if i % 2 == first {
             if !allowed_from(table, i + 1, records) {
-                return refused(12);
+                return refused(names::BAD_RECORD);
             }
             if at.rank == 0 {
                 return taken(i, i + 1);
@@ -138,7 +138,7 @@ pub fn select(own: PointCode, far: PointCode, table: &[u8]) -> Selected
 {
     let records = layout::records(table.len());
     if circuit::bad_group(own, far, records) {
-        return refused(1);
+        return refused(names::NO_SUCH_GROUP);
     }
     search(circuit::lowest(own, far), table, records as u32)
 }

@@ -85,11 +85,11 @@ fn headings(room: &mut [u8], at: usize, first: u8, second: u8) -> usize
     ensures { λ r. ⌜ Wrote (now (room .entry)) at (headings first second) r (now (room .exit)) ⌝ }
     ensures { λ r. ⌜ r ≤ at + 5 ⌝ }
 {
-    if first == 0 {
+    if first == names::NO_SIGNAL {
         return put(room, at, b'-');
     }
     let next = hex(room, at, first);
-    if second == 0 {
+    if second == names::NO_SIGNAL {
         return next;
     }
     let next = put(room, next, b',');
@@ -101,7 +101,7 @@ fn state_and_flags(room: &mut [u8], at: usize, l: Line) -> usize
     ensures { λ r. ⌜ Wrote (now (room .entry)) at (stateAndFlags l) r (now (room .exit)) ⌝ }
     ensures { λ r. ⌜ r ≤ at + 42 ⌝ }
 {
-    if l.refusal == 2 {
+    if l.refusal == names::NO_SUCH_CIRCUIT {
         return word(room, at, b"- - ");
     }
     let next = field(room, at, l.state as u64);

@@ -106,11 +106,11 @@ pub extern "C" fn tup_read(own: u32, far: u32, count: u32, octets: &[u8], out: &
     ensures leaves { λ _. ⌜ now (out .exit) ≡ readInto own far count (now (octets .entry)) (now (out .entry)) .buffer ⌝ }
 {
     let f = reader::read_fields(PointCode(own), PointCode(far), count as usize, octets);
-    if f.refusal != 0 {
+    if f.refusal != names::ACCEPTED {
         return f.refusal as u32;
     }
     if out.len() < FIELDS_OCTETS {
-        return 11;
+        return names::OUTPUT_TOO_SHORT as u32;
     }
     put_fields(f, out);
     0

@@ -164,12 +164,12 @@ fn write_iam(label: u64, category: u32, indicators: u32, address: &[u8], out: &m
     ensures leaves { λ _. ⌜ now (out .exit) ≡ iamWriting label category indicators (now (address .entry)) (now (out .entry)) .buffer ⌝ }
 {
     if bad_address(address) {
-        return unwritten(10);
+        return unwritten(names::WRONG_ADDRESS);
     }
     let count = address.len();
     let need = formats::IAM_OCTETS + (count + 1) / 2;
     if out.len() < need {
-        return unwritten(11);
+        return unwritten(names::OUTPUT_TOO_SHORT);
     }
     put_iam(
         label,
@@ -179,7 +179,7 @@ fn write_iam(label: u64, category: u32, indicators: u32, address: &[u8], out: &m
     );
     put_pairs(address, out);
     Written {
-        refusal: 0,
+        refusal: names::ACCEPTED,
         length: need as u8,
     }
 }
@@ -191,18 +191,18 @@ fn write_short(label: u64, heading: u32, acm: u32, fixed: usize, out: &mut [u8])
     ensures leaves { λ _. ⌜ now (out .exit) ≡ shortWriting label heading acm (now (out .entry)) .buffer ⌝ }
 {
     if out.len() < fixed {
-        return unwritten(11);
+        return unwritten(names::OUTPUT_TOO_SHORT);
     }
     if heading == formats::ACM {
         put_acm(label, acm as u8, out);
         return Written {
-            refusal: 0,
+            refusal: names::ACCEPTED,
             length: formats::ACM_OCTETS as u8,
         };
     }
     put_plain(label, heading as u8, out);
     Written {
-        refusal: 0,
+        refusal: names::ACCEPTED,
         length: formats::PLAIN_OCTETS as u8,
     }
 }
@@ -225,17 +225,17 @@ pub fn write(
     ensures leaves { λ _. ⌜ now (out .exit) ≡ writing (own .0) (far .0) records (said (cic .0) heading acm category indicators (now (address .entry))) (now (out .entry)) .buffer ⌝ }
 {
     if circuit::bad_group(own, far, records) {
-        return unwritten(1);
+        return unwritten(names::NO_SUCH_GROUP);
     }
     if LAST_CIC < cic.0 {
-        return unwritten(2);
+        return unwritten(names::NO_SUCH_CIRCUIT);
     }
     let fixed = formats::fixed_length(heading);
     if fixed == 0 {
-        return unwritten(9);
+        return unwritten(names::NO_SUCH_HEADING);
     }
     if too_large(cic.0, heading, acm, category, indicators, address) {
-        return unwritten(3);
+        return unwritten(names::NO_SUCH_EVENT);
     }
     let label = label_to(own, far, cic);
     if heading == formats::IAM {

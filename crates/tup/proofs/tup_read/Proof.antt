@@ -15,6 +15,9 @@ cast-result c = search needs
 returns : tie.Need-returns
 returns c = tells (refuses _ _ _ _ _ _ (c .before .before .before .read-fields .ensures) (c .before .if1 .taken)) refl refl
 
+cast-result-2 : tie.Need-cast-result-2
+cast-result-2 c = search needs
+
 returns-2 : tie.Need-returns-2
 returns-2 c = tells (no-room _ _ _ _ _ _ (c .before .before .before .read-fields .ensures) (c .before .if1 .left) (c .if2 .taken)) refl refl
 
@@ -34,6 +37,7 @@ tup-read-spec =
     read-fields-requires
     cast-result
     returns
+    cast-result-2
     returns-2
     put-fields-requires
     same-length
