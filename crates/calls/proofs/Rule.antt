@@ -16,7 +16,8 @@ use Rattle.circuit.proofs.Every.{left, right, then, atBelow, eachBool, atBool}
 use Rattle.calls.specs.declared.Call.{Call}
 use Rattle.calls.proofs.Numbers.{numbers}
 use Rattle.signals.specs.Table.{onSignal}
-use Rattle.calls.specs.Calls.{call, callPart, unmarked, meaning, isNumber, columns, column, place, callAt, onCall}
+use Rattle.calls.specs.Calls.{call, callPart, unmarked, meaning, isNumber, onCall}
+use Rattle.calls.specs.Way.{columns, column, place, callAt}
 
 abbrev same : Call → Call → Bool
 same a b = eqb (a .state) (b .state) && (eqb (a .sends) (b .sends) && eqb (a .ind) (b .ind))

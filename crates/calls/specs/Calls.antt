@@ -1,14 +1,10 @@
 -- The call part of document 01's table "Signals that arrive", at each state, role and signal, and the numbers that stand for it (document 02, T-06).
 -- Assumes nothing.
 use mathlib.Core.Bool.{Bool, true, false, cond, _&&_, _||_}
-use mathlib.Core.List.{List, [], _∷_}
-use Prim.Native.Nat.{ℕ, _+_, _*_, _/_, _%_}
+use Prim.Native.Nat.{ℕ, _/_, _%_}
 use lib.Dec.{eqb, leb, ltb}
-use lib.ListN.{getD}
 use Rattle.circuit.specs.declared.Record.{Record}
-use Rattle.circuit.specs.declared.Failure.the-variants.{Sec}
 use Rattle.circuit.specs.declared.Signal.{Signal}
-use Rattle.circuit.specs.declared.Signal.the-variants.{Iam, Acm, Anc, Ann, Cbk, Clf, Ran, Rlg, Blo, Bla, Ubl, Uba, Rsc, Fail}
 use Rattle.circuit.specs.declared.Sends.{Sends}
 use Rattle.circuit.specs.declared.Sends.the-variants.{Nothing, One, Two}
 use Rattle.circuit.specs.declared.Outcome.{Outcome}
@@ -58,31 +54,3 @@ meaning n = byDigit (n / 16) (n % 16)
 -- the numbers there are
 abbrev pub isNumber : ℕ → Bool
 isNumber n = leb (n / 16) 12 && leb (n % 16) 0xe
-
--- THE TABLE'S ORDER. A column a signal, in the order in which document 01 lists their headings, the failures sharing the last one; in it the states,
--- and at each state c and then n
-abbrev pub columns : List Signal
-columns = Iam ∷ Acm 0 ∷ Anc ∷ Ann ∷ Cbk ∷ Clf ∷ Ran ∷ Rlg ∷ Blo ∷ Bla ∷ Ubl ∷ Uba ∷ Rsc ∷ Fail Sec ∷ []
-
-abbrev pub column : Signal → ℕ
-column Iam = 0
-column (Acm octet) = 1
-column Anc = 2
-column Ann = 3
-column Cbk = 4
-column Clf = 5
-column Ran = 6
-column Rlg = 7
-column Blo = 8
-column Bla = 9
-column Ubl = 10
-column Uba = 11
-column Rsc = 12
-column (Fail f) = 13
-
-abbrev pub place : (c : Bool) → (state : ℕ) → Signal → ℕ
-place c s sig = column sig * 26 + s * 2 + cond c 0 1
-
--- what stands at a place
-abbrev pub callAt : ℕ → Call
-callAt k = onCall (eqb (k % 2) 0) (k % 26 / 2) (getD columns (k / 26) Iam)

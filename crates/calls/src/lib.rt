@@ -4,7 +4,8 @@ use circuit::Signal;
 ghost use mathlib.Core.Path.{_≡_};
 ghost use mathlib.Core.Bool.{cond};
 ghost use Prim.Native.Nat.{_<_, _≤_};
-ghost use Rattle.calls.specs.Calls.{byDigit, meaning, column, place, callAt, onCall};
+ghost use Rattle.calls.specs.Calls.{byDigit, meaning, onCall};
+ghost use Rattle.calls.specs.Way.{column, place, callAt};
 
 // What a signal does to the call: the new state, the heading of what is sent, 0 for nothing, and the indication.
 pub struct Call {

@@ -10,7 +10,8 @@ use Rattle.circuit.specs.declared.Timer.{Timer}
 use Rattle.circuit.specs.declared.Timer.the-variants.{AddressWait, AnswerWait, IncomingHangUp, Repeat, OneMinute, BlockRepeat}
 use Rattle.codes.specs.Headings.{failureHeading, headingOf}
 use Rattle.answers.specs.Answers.{word}
-use Rattle.marks.specs.Marks.{own, far, bla, uba, blocked, unblocked}
+use Rattle.marks.specs.Flags.{own, far, bla, uba}
+use Rattle.marks.specs.Way.{blocked, unblocked}
 use Rattle.commands.specs.Tables.{late, answerSignal}
 
 -- refused, and taken with one signal

@@ -20,7 +20,7 @@ use Rattle.layout.specs.Layout.{tableOctets, recordsIn, badLength, storedAt, co
 use Rattle.layout.proofs.Laws.{flagsBack, storedIn, endsBefore}
 use Rattle.step.specs.Step.{stepFound}
 use Rattle.step.specs.Frees.{freed}
-use Rattle.step.specs.Answers.{shown, answerTo}
+use Rattle.step.specs.Way.{shown, answerTo}
 use Rattle.step.proofs.Refused.{keepsFound, refusesFound}
 use Rattle.step.proofs.Tables.{refusalBack, bad, answers}
 use Rattle.group.specs.Table.{Step, nowhere, refusedAt, taken, stored, released}

@@ -12,7 +12,8 @@ use lib.ListN.{length, getD, set, length-set}
 use lib.Seq.{getD-set-same, getD-set-other, lt-length-set}
 use Rattle.circuit.specs.declared.Record.{Record}
 use Rattle.circuit.specs.Records.{rec, valid, flagsAllowed, onlyFar}
-use Rattle.marks.specs.Marks.{bit, legal, legalInReset}
+use Rattle.marks.specs.Flags.{bit}
+use Rattle.marks.specs.Way.{legal, legalInReset}
 use Rattle.circuit.proofs.Every.{atBelow, alike, alikeSame}
 use Rattle.words.proofs.Words as words
 use Rattle.words.specs.Words.{putWord, largest}

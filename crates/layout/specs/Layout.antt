@@ -9,7 +9,7 @@ use lib.Dec.{eqb, leb, ltb}
 use lib.ListN.{length, getD, set, replicate}
 use Rattle.circuit.specs.declared.Record.{Record}
 use Rattle.circuit.specs.Records.{rec, valid}
-use Rattle.marks.specs.Marks.{flags, own, far, bla, uba}
+use Rattle.marks.specs.Flags.{flags, own, far, bla, uba}
 use Rattle.layout.specs.declared.Stored.{Stored}
 use Rattle.words.specs.Words.{word, putWord}
 

@@ -6,7 +6,7 @@ use Prim.Native.Nat.{ℕ, _/_, _%_, _^_, _≤_}
 use native.Mathlib.Omega.{arith}
 use lib.Dec.{eqb}
 use Rattle.circuit.proofs.Every.{atBelow, alike, alikeSame}
-use Rattle.marks.specs.Marks.{legal}
+use Rattle.marks.specs.Way.{legal}
 
 abbrev listed : ℕ → Bool
 listed f = eqb (0x05af / 2 ^ f % 2) 1

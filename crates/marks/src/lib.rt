@@ -4,7 +4,8 @@ use circuit::Signal;
 ghost use mathlib.Core.Path.{_≡_};
 ghost use mathlib.Core.Bool.{cond};
 ghost use Prim.Native.Nat.{_≤_};
-ghost use Rattle.marks.specs.Marks.{bit, flags, own, far, bla, uba, legal, legalInReset, blocked, unblocked, keptOut, reset, onMarks};
+ghost use Rattle.marks.specs.Flags.{bit, flags, own, far, bla, uba};
+ghost use Rattle.marks.specs.Way.{legal, legalInReset, blocked, unblocked, keptOut, reset, onMarks};
 
 // What is done to the flags, the heading of what is sent for it, 0 for none, and whether the signal goes no further than the marks.
 pub struct Marked {

@@ -21,14 +21,10 @@ use Rattle.codes.specs.declared.Found.the-variants.{Is}
 use Rattle.words.specs.Words.{largest}
 use Rattle.step.specs.Step.{step}
 use Rattle.step.specs.Frees.{freed, frees}
-use Rattle.step.specs.Answers.{shown}
-use Rattle.step.specs.Together.{eventWay}
 use Rattle.step.proofs.Always.{freesListed}
-use Rattle.step.proofs.Tables.{areTheTables}
-use Rattle.answers.specs.Answers.{packed}
 use Rattle.calls.specs.Calls.{call, meaning, isNumber}
 use Rattle.calls.proofs.Rule.{apart}
-use Rattle.layout.specs.Layout.{recordOf, allowed, recordsIn, counterIn, stateAt, rankAt, recordAt, allowedAt, idle}
+use Rattle.layout.specs.Layout.{recordsIn, counterIn, stateAt, rankAt, recordAt, allowedAt, idle}
 use Rattle.group.specs.Table.{stepIn}
 use Rattle.group.specs.Runs.{Follows, Follows.start, Follows.next, events}
 use Rattle.group.proofs.Ranks as ranks
@@ -178,11 +174,7 @@ neverTheSame = choices.neverMeet
 
 -- T-06. SHOW THE RULES AS A TABLE
 
--- calls and marks together are document 01's tables: for every legal record, by its state and its flags, every role and every event. What the
--- program's table of calls says is in `Contracts`, `callsSay`
-pub callsAndMarks : (c : Bool) (s f : ℕ) (e : Event) → T (allowed s f) → eventWay c s f e ≡ packed (shown (step c (recordOf s f) e))
-callsAndMarks = areTheTables
-
+-- What the program's table of calls says is in `Contracts`, `callsSay`.
 -- the numbers of the table: the first digit is the new state; the second the indication where nothing is sent, a CLF with 10, b CLF with 6, c RLG with
 -- 0, d RLG with 5, e RLG with 6
 pub numbersMean : (meaning 0x69 ≡ call 6 0 9) × (meaning 0x5a ≡ call 5 0x46 10) × (meaning 0x5b ≡ call 5 0x46 6)

@@ -25,8 +25,8 @@ use Rattle.calls.specs.Calls.{onCall}
 use Rattle.layout.specs.Layout.{flagsOf, recordOf, allowed}
 use Rattle.layout.proofs.Laws.{flagsBack}
 use Rattle.step.specs.Step.{step, stepFound}
-use Rattle.step.specs.Answers.{shown, answerTo}
-use Rattle.step.specs.Together.{eventWay, foundWay}
+use Rattle.step.specs.Way.{shown, answerTo}
+use Rattle.step.specs.Way.{eventWay, foundWay}
 
 -- every field of an answer is an octet
 abbrev small : Answers.Answer → Bool

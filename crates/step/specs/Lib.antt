@@ -1,5 +1,4 @@
 pub mod Step
 pub mod Refusals
 pub mod Frees
-pub mod Answers
-pub mod Together
+pub mod Way

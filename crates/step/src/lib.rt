@@ -7,8 +7,8 @@ use marks::Marked;
 ghost use mathlib.Core.Path.{_≡_};
 ghost use Rattle.codes.specs.Numbers.{eventOf};
 ghost use Rattle.answers.specs.Answers.{packed, Unpacked};
-ghost use Rattle.step.specs.Answers.{answerTo};
-ghost use Rattle.step.specs.Together.{isIam, marksPart, together, behindMarks, signalWay, eventWay, foundWay};
+ghost use Rattle.step.specs.Way.{answerTo};
+ghost use Rattle.step.specs.Way.{isIam, marksPart, together, behindMarks, signalWay, eventWay, foundWay};
 
 fn is_iam(s: Signal) -> bool
     ensures { λ r. ⌜ r ≡ isIam s ⌝ }

@@ -1,31 +1,13 @@
--- The marks of a circuit as an octet of flags (document 01, "Group, records, numbers"): which are legal, and what the signals BLO, UBL, BLA, UBA
--- and RSC and the commands block, unblock and restart do to them and send. `step` shows that with the calls' part they are document 01's tables.
+-- What the program does to the marks: which flags are legal, and what the signals BLO, UBL, BLA, UBA and RSC and the commands block and unblock do to
+-- them and send. The contracts of this crate cite it; no promise leans on it, since `step` shows that with the calls it comes to document 01's tables.
 -- Assumes nothing.
 use mathlib.Core.Bool.{Bool, true, false, not, cond, _&&_, _||_}
-use Prim.Native.Nat.{ℕ, _+_, _/_, _%_}
+use Prim.Native.Nat.{ℕ}
 use lib.Dec.{eqb, leb}
 use Rattle.circuit.specs.declared.Signal.{Signal}
 use Rattle.circuit.specs.declared.Signal.the-variants.{Iam, Acm, Anc, Ann, Cbk, Clf, Ran, Rlg, Blo, Bla, Ubl, Uba, Rsc, Fail}
 use Rattle.marks.specs.declared.Marked.{Marked}
-
--- flags: 1 own block, 2 far block, 4 awaiting BLA, 8 awaiting UBA
-abbrev pub bit : Bool → ℕ → ℕ
-bit set worth = cond set worth 0
-
-abbrev pub flags : (own far bla uba : Bool) → ℕ
-flags own far bla uba = bit own 1 + bit far 2 + bit bla 4 + bit uba 8
-
-abbrev pub own : ℕ → Bool
-own f = eqb (f % 2) 1
-
-abbrev pub far : ℕ → Bool
-far f = eqb (f / 2 % 2) 1
-
-abbrev pub bla : ℕ → Bool
-bla f = eqb (f / 4 % 2) 1
-
-abbrev pub uba : ℕ → Bool
-uba f = eqb (f / 8 % 2) 1
+use Rattle.marks.specs.Flags.{flags, own, far, bla, uba}
 
 -- 4 needs 1; 8 needs 1 absent; 4 and 8 never together
 abbrev pub legal : ℕ → Bool

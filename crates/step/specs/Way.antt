@@ -1,5 +1,6 @@
--- Calls and marks put together, on a record of two octets: what the marks send goes out before what the call sends. The contracts of private
--- functions cite it; no promise leans on it, since `Tables` in proofs/ shows that it comes to document 01's tables.
+-- The program's way through an event on a record of two octets: calls and marks put together, what the marks send before what the call sends; and
+-- what the step of such a record answers. The contracts of this crate cite it; no promise leans on it, since `Tables` in proofs/ shows that it comes
+-- to document 01's tables, and the contract of `group::step` speaks of those.
 -- Assumes nothing.
 use mathlib.Core.Bool.{Bool, true, false, cond, _&&_}
 use Prim.Native.Nat.{ℕ}
@@ -10,9 +11,13 @@ use Rattle.circuit.specs.declared.Event.{Event}
 use Rattle.circuit.specs.declared.Event.the-variants.{Arrives, Ordered, RunsOut}
 use Rattle.codes.specs.declared.Found.{Found}
 use Rattle.codes.specs.declared.Found.the-variants.{Is, Missing}
-use Rattle.answers.specs.Answers.{word}
+use Rattle.circuit.specs.declared.Outcome.{Outcome}
+use Rattle.answers.specs.Answers.{Answer, refusal, word}
+use Rattle.layout.specs.Layout.{flagsOf, recordOf, allowed}
+use Rattle.step.specs.Step.{stepFound}
 use Rattle.marks.specs.declared.Marked.{Marked}
-use Rattle.marks.specs.Marks.{own, keptOut, onMarks}
+use Rattle.marks.specs.Flags.{own}
+use Rattle.marks.specs.Way.{keptOut, onMarks}
 use Rattle.calls.specs.declared.Call.{Call}
 use Rattle.calls.specs.Calls.{onCall}
 use Rattle.commands.specs.Way.{refused, commandWay, timerWay}
@@ -58,3 +63,11 @@ eventWay c s f (RunsOut t) = timerWay s f t
 abbrev pub foundWay : (c : Bool) → (state flags : ℕ) → Found → ℕ
 foundWay c s f (Is e) = eventWay c s f e
 foundWay c s f Missing = refused 3 s f
+
+-- an outcome by its numbers
+abbrev pub shown : Outcome → Answer
+shown o = record { refusal = o .refusal; state = o .after .state; flags = flagsOf (o .after); sends = o .sends; ind = o .ind }
+
+-- 12: two octets that are no record are shown as they stand
+unfoldable pub answerTo : (c : Bool) → (state flags : ℕ) → Found → Answer
+answerTo c s f event = cond (allowed s f) (shown (stepFound c (recordOf s f) event)) (refusal 12 s f)
