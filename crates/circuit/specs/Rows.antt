@@ -3,7 +3,7 @@
 use mathlib.Core.Bool.{Bool, cond, _&&_}
 use mathlib.Core.List.{List, [], _∷_}
 use Prim.Native.Nat.{ℕ}
-use lib.Dec.{leb, eqb}
+use lib.Dec.{leb}
 use Rattle.circuit.specs.declared.Record.{Record}
 use Rattle.circuit.specs.declared.Sends.{Sends}
 use Rattle.circuit.specs.declared.Sends.the-variants.{Nothing}
@@ -38,7 +38,3 @@ discarded r = answered r Nothing 7
 -- a refusal returns its number, sends nothing, gives indication 0, changes nothing
 abbrev pub refused : ℕ → Record → Outcome
 refused n r = record { refusal = n; after = r; sends = Nothing; ind = 0 }
-
--- what is answered where no row fits: the refusal of that number, and for 0 that the signal is discarded
-abbrev pub otherwise : ℕ → Record → Outcome
-otherwise unmet r = cond (eqb unmet 0) (discarded r) (refused unmet r)

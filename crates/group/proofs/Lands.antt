@@ -16,7 +16,8 @@ use Rattle.codes.specs.declared.Found.{Found}
 use Rattle.words.specs.Words.{largest}
 use Rattle.answers.specs.Answers.{Answer, refusal, word, packed, Unpacked}
 use Rattle.layout.specs.declared.Stored.{Stored}
-use Rattle.layout.specs.Layout.{tableOctets, recordsIn, badLength, storedAt, counterIn, stateAt, flagsAt, flagsOf, recordOf, recordAt, allowed, putOctets, ranked}
+use Rattle.layout.specs.Way.{badLength}
+use Rattle.layout.specs.Layout.{tableOctets, recordsIn, storedAt, counterIn, stateAt, flagsAt, flagsOf, recordOf, recordAt, allowed, putOctets, ranked}
 use Rattle.layout.proofs.Laws.{flagsBack, storedIn, endsBefore}
 use Rattle.step.specs.Step.{stepFound}
 use Rattle.step.specs.Frees.{freed}

@@ -17,7 +17,8 @@ use Rattle.marks.specs.Way.{legal, legalInReset}
 use Rattle.circuit.proofs.Every.{atBelow, alike, alikeSame}
 use Rattle.words.proofs.Words as words
 use Rattle.words.specs.Words.{putWord, largest}
-use Rattle.layout.specs.Layout.{counterOctets, recordOctets, tableOctets, recordsIn, badLength, counterIn, stateAt, flagsAt, rankAt, flagsOf, recordOf, recordAt, allowed, stored, storedAt, putOctets, put, putCounter, putRank, ranked, idle}
+use Rattle.layout.specs.Way.{badLength}
+use Rattle.layout.specs.Layout.{counterOctets, recordOctets, tableOctets, recordsIn, counterIn, stateAt, flagsAt, rankAt, flagsOf, recordOf, recordAt, allowed, stored, storedAt, putOctets, put, putCounter, putRank, ranked, idle}
 
 -- a circuit's octets one by one, as the program reads them
 module _ (table : List ℕ) (i at : ℕ) (place : at ≡ tableOctets i) where

@@ -2,10 +2,10 @@
 -- First the counter of releases, a word of eight octets; then a record to each circuit, ten octets: the state, the flags, and the release rank,
 -- a word. Record i is circuit i, and a table of zeros is an idle group.
 -- Assumes nothing.
-use mathlib.Core.Bool.{Bool, cond, _&&_, _||_}
+use mathlib.Core.Bool.{Bool, cond, _&&_}
 use mathlib.Core.List.{List}
 use Prim.Native.Nat.{ℕ, _+_, _*_, _-_, _/_, _%_}
-use lib.Dec.{eqb, leb, ltb}
+use lib.Dec.{eqb, leb}
 use lib.ListN.{length, getD, set, replicate}
 use Rattle.circuit.specs.declared.Record.{Record}
 use Rattle.circuit.specs.Records.{rec, valid}
@@ -26,10 +26,6 @@ tableOctets circuits = counterOctets + recordOctets * circuits
 -- how many records a table of so many octets holds; none if it is not a counter and whole records
 unfoldable pub recordsIn : ℕ → ℕ
 recordsIn octets = cond (eqb ((octets - counterOctets) % recordOctets) 0) ((octets - counterOctets) / recordOctets) 0
-
--- none or more than 4096 of them are no group's (refusal 1)
-abbrev pub badLength : ℕ → Bool
-badLength octets = eqb (recordsIn octets) 0 || ltb 4096 (recordsIn octets)
 
 unfoldable pub counterIn : List ℕ → ℕ
 counterIn table = word table 0

@@ -4,7 +4,8 @@ use circuit::Cic;
 ghost use mathlib.Core.Path.{_≡_};
 ghost use Prim.Native.Nat.{_+_, _≤_};
 ghost use lib.Dec.{ltb};
-ghost use Rattle.layout.specs.Layout.{tableOctets, recordsIn, badLength, counterIn, allowed, storedAt, putOctets, putCounter, putRank};
+ghost use Rattle.layout.specs.Way.{badLength};
+ghost use Rattle.layout.specs.Layout.{tableOctets, recordsIn, counterIn, allowed, storedAt, putOctets, putCounter, putRank};
 
 const COUNTER_OCTETS: usize = 8;
 
