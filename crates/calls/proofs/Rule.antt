@@ -1,6 +1,7 @@
--- The table's rule, over all of its entries: each number is one of those that exist, and means what document 01's table says at its place.
+-- The table's rule, over all of its entries: each number is one of those that exist, and means what document 01's table says at its place. `column`
+-- has the test computed at each column.
 -- Assumes nothing.
-use mathlib.Core.Path.{_≡_, refl, ap, _∙_, sym}
+use mathlib.Core.Path.{_≡_, refl, ap, _∙_, sym, subst}
 use mathlib.Core.Bool.{Bool, true, false, cond, _&&_}
 use mathlib.Core.List.{List}
 use Prim.Native.Nat.{ℕ, _+_, _*_, _/_, _%_, _<_, _≤_}
@@ -14,10 +15,9 @@ use Rattle.circuit.specs.Rows.{first}
 use Rattle.circuit.specs.Every.{implies, eachBelow}
 use Rattle.circuit.proofs.Every.{left, right, then, atBelow, eachBool, atBool}
 use Rattle.calls.specs.declared.Call.{Call}
-use Rattle.calls.proofs.Numbers.{numbers}
 use Rattle.signals.specs.Table.{onSignal}
 use Rattle.calls.specs.Calls.{call, callPart, unmarked, meaning, isNumber, onCall}
-use Rattle.calls.specs.Way.{columns, column, place, callAt}
+use Rattle.calls.specs.Way.{Column}
 
 abbrev same : Call → Call → Bool
 same a b = eqb (a .state) (b .state) && (eqb (a .sends) (b .sends) && eqb (a .ind) (b .ind))
@@ -32,37 +32,14 @@ isSame a b t =
     (eqb→eq (a .sends) (b .sends) (left (eqb (a .sends) (b .sends)) _ (right (eqb (a .state) (b .state)) _ t)))
     (eqb→eq (a .ind) (b .ind) (right (eqb (a .sends) (b .sends)) _ (right (eqb (a .state) (b .state)) _ t)))
 
-abbrev rightAt : ℕ → Bool
-rightAt k = isNumber (getD numbers k 0) && same (meaning (getD numbers k 0)) (callAt k)
+-- the test of a column, at all 26 of its entries
+abbrev pub rightAt : Signal → List ℕ → ℕ → Bool
+rightAt sig numbers i = isNumber (getD numbers i 0) && same (meaning (getD numbers i 0)) (onCall (eqb (i % 2) 0) (i / 2) sig)
 
--- the test, at all 364 entries
-tested : T (eachBelow 364 rightAt)
-unfolding meaning onCall first
-tested = tt
-
-pub ruled : (k : ℕ) → k < 364 → meaning (getD numbers k 0) ≡ callAt k
-ruled k h = isSame (meaning (getD numbers k 0)) (callAt k) (right (isNumber (getD numbers k 0)) _ (atBelow 364 rightAt tested k h))
-
--- signals that share a column do the same to a call
-abbrev shares : Signal → Bool
-shares sig = eachBelow 13 (λ s. eachBool (λ c. same (onCall c s (getD columns (column sig) Iam)) (onCall c s sig)))
-
-shared : (sig : Signal) → T (shares sig)
-unfolding onCall first
-shared Iam = tt
-shared (Acm octet) = tt
-shared Anc = tt
-shared Ann = tt
-shared Cbk = tt
-shared Clf = tt
-shared Ran = tt
-shared Rlg = tt
-shared Blo = tt
-shared Bla = tt
-shared Ubl = tt
-shared Uba = tt
-shared Rsc = tt
-shared (Fail f) = tt
+-- and the rule from it
+pub ruled : (sig : Signal) (numbers : List ℕ) → T (eachBelow 26 (rightAt sig numbers)) → Column sig numbers
+unfolding Column
+ruled sig numbers t i h = isSame _ _ (right (isNumber (getD numbers i 0)) _ (atBelow 26 (rightAt sig numbers) t i h))
 
 roleAt : (n : ℕ) (c : Bool) → eqb ((n * 2 + cond c 0 1) % 2) 0 ≡ c
 roleAt n true = let e : (n * 2 + 0) % 2 ≡ 0 = omega arith in rw e
@@ -72,15 +49,15 @@ low : (c : Bool) → cond c 0 1 < 2
 low true = omega arith
 low false = omega arith
 
--- a signal's place is where its entry stands
-pub atPlace : (c : Bool) (s : ℕ) (sig : Signal) → s ≤ 12 → callAt (place c s sig) ≡ onCall c s sig
-atPlace c s sig h =
+-- the entry of a state and a role in a column
+pub atPlace : (c : Bool) (s : ℕ) (sig : Signal) (numbers : List ℕ) → s ≤ 12 → Column sig numbers → meaning (getD numbers (s * 2 + cond c 0 1) 0) ≡ onCall c s sig
+unfolding Column
+atPlace c s sig numbers h column =
     let b : cond c 0 1 < 2 = low c in
-    let role : (column sig * 26 + s * 2 + cond c 0 1) ≡ ((column sig * 13 + s) * 2 + cond c 0 1) = omega arith in
-    let state : (column sig * 26 + s * 2 + cond c 0 1) % 26 / 2 ≡ s = omega arith in
-    let signal : (column sig * 26 + s * 2 + cond c 0 1) / 26 ≡ column sig = omega arith in
-    rw (state, signal) (rw role (rw (roleAt (column sig * 13 + s) c)
-    (isSame _ _ (atBool (λ c. same (onCall c s (getD columns (column sig) Iam)) (onCall c s sig)) (atBelow 13 (λ s. eachBool (λ c. same (onCall c s (getD columns (column sig) Iam)) (onCall c s sig))) (shared sig) s (omega arith)) c))))
+    let state : (s * 2 + cond c 0 1) / 2 ≡ s = omega arith in
+    subst (λ (k : ℕ). meaning (getD numbers (s * 2 + cond c 0 1) 0) ≡ onCall c k sig) state
+    (subst (λ (r : Bool). meaning (getD numbers (s * 2 + cond c 0 1) 0) ≡ onCall r ((s * 2 + cond c 0 1) / 2) sig) (roleAt s c)
+    (column (s * 2 + cond c 0 1) (omega arith)))
 
 -- the number of a call part: each number that exists comes back from its meaning, so that no two of them mean the same
 abbrev number : Call → ℕ

@@ -3,7 +3,6 @@
 use mathlib.Core.Path.{_∙_}
 use borrow.Author.Tests.{lt-leb}
 use Rattle.calls.specs.Calls.{onCall}
-use Rattle.calls.proofs.Rule.{atPlace}
 use borrow.Author.Needs.{needs}
 use Rattle.calls.proofs.on_signal.Statement.{statement}
 use Rattle.calls.proofs.on_signal.Tie as tie
@@ -12,9 +11,6 @@ returns : tie.Need-returns
 unfolding onCall
 returns c = simp (lt-leb _ _ (c .if1 .taken))
 
-place-requires : tie.Need-place-requires
-place-requires c κs = search needs
-
 entry-requires : tie.Need-entry-requires
 entry-requires c κs = search needs
 
@@ -22,10 +18,7 @@ meaning-requires : tie.Need-meaning-requires
 meaning-requires c κs = search needs
 
 returns-2 : tie.Need-returns-2
-returns-2 c =
-    let p = c .before .before in let a = p .before .before .args in
-    c .meaning .ensures ∙ c .before .entry .ensures ∙ rw (p .place .ensures .0) (atPlace (a .con) (a .state) (a .s) (p .before .if1 .left))
+returns-2 c = c .meaning .ensures ∙ c .before .entry .ensures
 
 pub on-signal-spec : {M : Type 1} → statement M
-on-signal-spec =
-    tie.close (tie.spec returns place-requires entry-requires meaning-requires returns-2)
+on-signal-spec = tie.close (tie.spec returns entry-requires meaning-requires returns-2)
