@@ -61,10 +61,13 @@ pub fn uba(flags: u8) -> bool
     flags / 8 % 2 == 1
 }
 
-// Whether the flags are legal, by a set and not flag by flag, since whole tables are judged by this.
+// Whether the flags are legal, by a set and not flag by flag, since whole tables are judged by this; most circuits have no flag.
 pub fn legal(flags: u8) -> bool
     ensures { λ r. ⌜ r ≡ legal flags ⌝ }
 {
+    if flags == NONE {
+        return true;
+    }
     if 15 < flags {
         return false;
     }
