@@ -49,6 +49,10 @@ fn field(room: &mut [u8], at: usize, n: u64) -> usize
     ensures { λ r. ⌜ Wrote (now (room .entry)) at (field n) r (now (room .exit)) ⌝ }
     ensures { λ r. ⌜ r ≤ at + 21 ⌝ }
 {
+    if n < 10 {
+        let next = put(room, at, 48 + n as u8);
+        return put(room, next, b' ');
+    }
     let next = digits(room, at, n);
     put(room, next, b' ')
 }
