@@ -29,7 +29,7 @@ fn within(state: u8, flags: u8, low: u8, high: u8, heading: u8, new: u8, ind: u8
 fn seize(state: u8, flags: u8) -> u64
     ensures { λ r. ⌜ r ≡ commandWay state flags Command.Seize ⌝ }
 {
-    if circuit::both(state == names::IDLE, flags / 2 % 2 == 1) {
+    if circuit::both(state == names::IDLE, marks::far(flags)) {
         answers::refused(names::FAR_BLOCKED, state, flags)
     } else {
         within(
@@ -188,7 +188,7 @@ fn fail_call(state: u8, flags: u8, f: Failure) -> u64
 fn block(state: u8, flags: u8) -> u64
     ensures { λ r. ⌜ r ≡ commandWay state flags Command.Block ⌝ }
 {
-    if circuit::either(flags % 2 == 1, state == names::AWAITING_RESET) {
+    if circuit::either(marks::own(flags), state == names::AWAITING_RESET) {
         answers::refused(names::COMMAND_NOT_ALLOWED, state, flags)
     } else {
         answers::sent(names::BLO, state, marks::blocked(flags), names::IND_NOTHING)
@@ -198,7 +198,7 @@ fn block(state: u8, flags: u8) -> u64
 fn unblock(state: u8, flags: u8) -> u64
     ensures { λ r. ⌜ r ≡ commandWay state flags Command.Unblock ⌝ }
 {
-    if flags % 2 == 1 {
+    if marks::own(flags) {
         answers::sent(
             names::UBL,
             state,

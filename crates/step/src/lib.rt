@@ -35,7 +35,7 @@ fn is_iam(s: Signal) -> bool
 fn marks_part(state: u8, flags: u8, s: Signal) -> Marked
     ensures { λ r. ⌜ r ≡ marksPart state flags s ⌝ }
 {
-    let blocked = circuit::both(state == names::IDLE, flags % 2 == 1);
+    let blocked = circuit::both(state == names::IDLE, marks::own(flags));
     if circuit::both(is_iam(s), blocked) {
         marks::kept_out(flags)
     } else {

@@ -3,20 +3,13 @@
 use borrow.Author.Needs.{needs}
 use Rattle.marks.proofs.on_bla.Statement.{statement}
 use Rattle.marks.proofs.on_bla.Tie as tie
-use Rattle.marks.proofs.on_bla.Reads as reads
-use Rattle.marks.proofs.on_bla.Lts as lts
-use Rattle.marks.proofs.bla.Reads as bla-reads
-use Rattle.marks.proofs.flags_of.Reads as flags-of-reads
 
--- src/lib.rt:140:9
 flags-of-requires : tie.Need-flags-of-requires
 flags-of-requires c κs = search needs
 
--- src/lib.rt:141:9
 bla-requires : tie.Need-bla-requires
 bla-requires c κs = search needs
 
--- src/lib.rt:137:1
 returns : tie.Need-returns
 returns c = rw (c .bla .ensures, c .before .flags-of .ensures)
 

@@ -3,15 +3,10 @@
 use borrow.Author.Needs.{needs}
 use Rattle.marks.proofs.on_blo.Statement.{statement}
 use Rattle.marks.proofs.on_blo.Tie as tie
-use Rattle.marks.proofs.on_blo.Reads as reads
-use Rattle.marks.proofs.on_blo.Lts as lts
-use Rattle.marks.proofs.flags_of.Reads as flags-of-reads
 
--- src/lib.rt:118:9
 flags-of-requires : tie.Need-flags-of-requires
 flags-of-requires c κs = search needs
 
--- src/lib.rt:115:1
 returns : tie.Need-returns
 returns c = rw (c .flags-of .ensures)
 
