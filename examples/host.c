@@ -1,143 +1,88 @@
-/* A small host: two exchanges in one process, joined by a link of two octet queues, with their timers on a wheel of seconds. It
-   shows what a host has to do around tup.h: lend a table, have a circuit chosen and seize it, carry what is sent, run the clocks,
-   and restart every circuit after a restart of its own. The scenes print each message in its order. */
-#include "tup.h"
+/* A small host to read first: two exchanges in one process, joined by a link of two octet queues. What each of them does for its
+   circuits is in exchange.c; here is what is around it: the link, the clock, call control, and scenes that print what happens. */
+#include "exchange.h"
+#include "tup_names.h"
 
 #include <stdio.h>
-#include <stdlib.h>
 #include <string.h>
 
-enum { CIRCUITS = 4, TIMERS = 7, SLOTS = 64, QUEUE = 64 };
+enum { QUEUE = 64, ROUND_TRIP = 2 };
 
-struct exchange {
-    const char *name;
-    uint32_t own, far;
-    uint8_t table[TUP_TABLE_OCTETS(CIRCUITS)];
-    unsigned slot[CIRCUITS][TIMERS]; /* where on the wheel each timer is, SLOTS for nowhere */
-    uint8_t sent[QUEUE][TUP_MESSAGE_MAX];
-    size_t sent_len[QUEUE];
-    unsigned first, waiting; /* of the queue of what this exchange sent */
-    int unheard;             /* the link loses what this exchange sends */
-};
+/* What each exchange has sent and the other has not taken yet, in order. */
+static struct queue {
+    uint8_t octets[QUEUE][TUP_MESSAGE_MAX];
+    size_t len[QUEUE];
+    unsigned first, waiting;
+} sent[2];
+static int broken; /* the link loses what is sent */
 
-static struct exchange exchanges[2] = {{.name = "A", .own = 2, .far = 1}, {.name = "B", .own = 1, .far = 2}};
-static unsigned seconds;
+static struct exchange exchanges[2];
+static struct exchange *const a = &exchanges[0], *const b = &exchanges[1];
 
-/* The wheel: in each slot a bit for each timer that runs out in that second. No timer is longer than the wheel. */
-static uint8_t wheel[SLOTS][2][CIRCUITS];
-static const unsigned timer_seconds[TIMERS] = {0, 25, 50, 30, 10, 60, 10};
-
-static const char *heading_name(uint32_t heading)
+static void send(struct exchange *x, uint32_t circuit, const uint8_t *octets, size_t len)
 {
-    static const struct { uint8_t heading; char name[4]; } names[] = {
-        {TUP_IAM, "IAM"}, {TUP_ACM, "ACM"}, {TUP_ANC, "ANC"}, {TUP_ANN, "ANN"}, {TUP_CBK, "CBK"}, {TUP_CLF, "CLF"},
-        {TUP_RAN, "RAN"}, {TUP_RLG, "RLG"}, {TUP_BLO, "BLO"}, {TUP_BLA, "BLA"}, {TUP_UBL, "UBL"}, {TUP_UBA, "UBA"},
-        {TUP_RSC, "RSC"}, {TUP_SEC, "SEC"}, {TUP_CGC, "CGC"}, {TUP_NNC, "NNC"}, {TUP_ADI, "ADI"}, {TUP_CFL, "CFL"},
-        {TUP_SSB, "SSB"}, {TUP_UNN, "UNN"}, {TUP_LOS, "LOS"}, {TUP_SST, "SST"}};
-    for (size_t i = 0; i < sizeof names / sizeof *names; i++)
-        if (names[i].heading == heading)
-            return names[i].name;
-    return "?";
-}
-
-static const char *indication_name(uint32_t indication)
-{
-    static const char *const names[] = {"", "incoming call", "address complete", "answered", "hung up", "circuit freed",
-                                        "try the call elsewhere", "discarded", "alert maintenance",
-                                        "incoming call taken, own call to be tried elsewhere", "call failed"};
-    return indication < sizeof names / sizeof *names ? names[indication] : "?";
-}
-
-/* The wheel. */
-
-static void stop_timer(struct exchange *x, uint32_t circuit, uint32_t timer)
-{
-    unsigned *slot = &x->slot[circuit][timer];
-    if (*slot < SLOTS)
-        wheel[*slot][x - exchanges][circuit] &= (uint8_t)~(1u << timer);
-    *slot = SLOTS;
-}
-
-static void start_timer(struct exchange *x, uint32_t circuit, uint32_t timer)
-{
-    stop_timer(x, circuit, timer);
-    unsigned slot = x->slot[circuit][timer] = (seconds + timer_seconds[timer]) % SLOTS;
-    wheel[slot][x - exchanges][circuit] |= (uint8_t)(1u << timer);
-}
-
-/* Which timers a record wants running, as bits. */
-static unsigned timers_wanted(uint32_t state, uint32_t flags)
-{
-    static const unsigned by_state[] = {[TUP_OUT_SEIZED] = 1u << TUP_TIMER_ADDRESS,
-                                        [TUP_OUT_PROCEEDING] = 1u << TUP_TIMER_ANSWER,
-                                        [TUP_OUT_HUNG_UP] = 1u << TUP_TIMER_ANSWER,
-                                        [TUP_AWAITING_RELEASE_GUARD] = 1u << TUP_TIMER_REPEAT | 1u << TUP_TIMER_MINUTE,
-                                        [TUP_IN_HUNG_UP] = 1u << TUP_TIMER_INCOMING_HANG_UP,
-                                        [TUP_IN_FAILED] = 1u << TUP_TIMER_REPEAT | 1u << TUP_TIMER_MINUTE,
-                                        [TUP_AWAITING_RESET] = 1u << TUP_TIMER_REPEAT | 1u << TUP_TIMER_MINUTE};
-    unsigned wanted = by_state[state];
-    if (flags & (TUP_AWAITING_BLA | TUP_AWAITING_UBA))
-        wanted |= 1u << TUP_TIMER_BLOCK_REPEAT;
-    return wanted;
-}
-
-/* A timer that is wanted before and after goes on; one that is wanted anew starts. */
-static void set_timers(struct exchange *x, uint32_t circuit, uint64_t answer)
-{
-    unsigned wanted = timers_wanted(tup_answer_state(answer), tup_answer_flags(answer));
-    for (uint32_t timer = 1; timer < TIMERS; timer++) {
-        int runs = x->slot[circuit][timer] < SLOTS, wants = (wanted >> timer & 1u) != 0;
-        if (wants && !runs)
-            start_timer(x, circuit, timer);
-        if (!wants)
-            stop_timer(x, circuit, timer);
-    }
-}
-
-/* Sending: the step names the heading; the octet of an ACM and the contents of an IAM are put in here. */
-
-static void send_signal(struct exchange *x, uint32_t circuit, uint32_t heading, uint32_t detail)
-{
-    static const uint8_t called[] = {5, 5, 5, 0, 1, 2, 3, 15};
-    int iam = heading == TUP_IAM;
-    uint8_t octets[TUP_MESSAGE_MAX];
-    uint32_t written = tup_write(x->own, x->far, CIRCUITS, circuit, heading, heading == TUP_ACM ? detail : 0, iam ? 10 : 0,
-                                 iam ? 2 : 0, called, iam ? sizeof called : 0, octets, sizeof octets);
-    if (tup_written_refusal(written) != 0) {
-        printf("the writer refused %u\n", tup_written_refusal(written));
-        exit(1);
-    }
-    printf("%4u s  %s sends %s %u   ", seconds, x->name, heading_name(heading), circuit);
-    for (uint32_t i = 0; i < tup_written_length(written); i++)
+    struct queue *queue = &sent[x - exchanges];
+    printf("%5u s  %s sends %s %u   ", x->seconds, x->name, tup_heading_name(octets[5]), circuit);
+    for (size_t i = 0; i < len; i++)
         printf(" %02x", octets[i]);
-    printf(x->unheard ? "  (lost)\n" : "\n");
-    if (x->unheard)
+    printf(broken ? "  (lost)\n" : "\n");
+    if (broken || queue->waiting == QUEUE)
         return;
-    unsigned last = (x->first + x->waiting++) % QUEUE;
-    memcpy(x->sent[last], octets, tup_written_length(written));
-    x->sent_len[last] = tup_written_length(written);
+    unsigned last = (queue->first + queue->waiting++) % QUEUE;
+    memcpy(queue->octets[last], octets, len);
+    queue->len[last] = len;
 }
 
-static void event(struct exchange *x, uint32_t circuit, const char *what, uint32_t kind, uint32_t code, uint32_t detail)
+static const char *event_name(uint32_t kind, uint32_t code)
 {
-    uint64_t answer = tup_step(x->own, x->far, x->table, sizeof x->table, circuit, kind, code, detail);
-    printf("%4u s  %s %s %u: ", seconds, x->name, what, circuit);
-    if (tup_answer_refusal(answer) != 0) {
-        printf("refused %u\n", tup_answer_refusal(answer));
-        return;
+    switch (kind) {
+    case TUP_SIGNAL: return tup_heading_name(code);
+    case TUP_COMMAND: return tup_command_name(code);
+    default: return tup_timer_name(code);
     }
-    printf("state %u flags %u", tup_answer_state(answer), tup_answer_flags(answer));
-    printf(tup_answer_indication(answer) ? ", %s\n" : "%s\n", indication_name(tup_answer_indication(answer)));
-    set_timers(x, circuit, answer);
-    if (tup_answer_first(answer) != 0)
-        send_signal(x, circuit, tup_answer_first(answer), detail);
-    if (tup_answer_second(answer) != 0)
-        send_signal(x, circuit, tup_answer_second(answer), detail);
 }
 
-static void command(struct exchange *x, uint32_t circuit, const char *what, uint32_t code, uint32_t detail)
+static void tell(struct exchange *x, uint32_t circuit, uint32_t kind, uint32_t code, uint64_t answer)
 {
-    event(x, circuit, what, TUP_COMMAND, code, detail);
+    printf("%5u s  %s %s %s %u: ", x->seconds, x->name, tup_kind_name(kind), event_name(kind, code), circuit);
+    if (tup_answer_refusal(answer) != TUP_ACCEPTED)
+        printf("refused %u, %s; ", tup_answer_refusal(answer), tup_refusal_name(tup_answer_refusal(answer)));
+    printf("%s", tup_state_name(tup_answer_state(answer)));
+    for (uint32_t flag = TUP_OWN_BLOCK; flag <= TUP_AWAITING_UBA; flag *= 2)
+        if ((tup_answer_flags(answer) & flag) != 0)
+            printf(", %s", tup_flag_name(flag));
+    if (tup_answer_indication(answer) != TUP_IND_NOTHING)
+        printf(" (%s)", tup_indication_name(tup_answer_indication(answer)));
+    printf("\n");
+}
+
+/* Takes the oldest message that the other exchange sent. */
+static void receive(struct exchange *x)
+{
+    struct queue *from = &sent[x == a];
+    unsigned oldest = from->first;
+    from->first = (oldest + 1) % QUEUE;
+    from->waiting--;
+    if (!exchange_receive(x, from->octets[oldest], from->len[oldest]))
+        printf("%5u s  %s drops %s\n", x->seconds, x->name, tup_heading_name(from->octets[oldest][5]));
+}
+
+static void deliver_all(void)
+{
+    while (sent[0].waiting + sent[1].waiting > 0)
+        for (int i = 0; i < 2; i++)
+            if (sent[1 - i].waiting > 0)
+                receive(&exchanges[i]);
+}
+
+static void wait_seconds(unsigned count)
+{
+    for (; count > 0; count--) {
+        deliver_all();
+        exchange_tick(a);
+        exchange_tick(b);
+    }
+    deliver_all();
 }
 
 /* A circuit for an outgoing call; CIRCUITS where there is none, and another route is to be tried. Nothing happens to the table
@@ -146,142 +91,118 @@ static uint32_t take_circuit(struct exchange *x)
 {
     uint64_t choice = tup_select(x->own, x->far, x->table, sizeof x->table);
     uint32_t circuit = tup_selected_circuit(choice);
-    if (tup_selected_refusal(choice) != 0) {
-        printf("%4u s  %s wants a circuit: refused %u\n", seconds, x->name, tup_selected_refusal(choice));
+    if (tup_selected_refusal(choice) != TUP_ACCEPTED) {
+        printf("%5u s  %s wants a circuit: refused %u, %s\n", x->seconds, x->name, tup_selected_refusal(choice),
+               tup_refusal_name(tup_selected_refusal(choice)));
         return CIRCUITS;
     }
-    printf("%4u s  %s wants a circuit: %u (%u looked at)\n", seconds, x->name, circuit, tup_selected_looked(choice));
-    command(x, circuit, "seizes", TUP_SEIZE, 0);
+    printf("%5u s  %s wants a circuit: %u (%u looked at)\n", x->seconds, x->name, circuit, tup_selected_looked(choice));
+    exchange_command(x, circuit, TUP_SEIZE, 0);
     return circuit;
 }
 
-/* Takes the oldest message that the other exchange sent. */
-static void receive(struct exchange *x)
+static void scene_start(void)
 {
-    struct exchange *from = &exchanges[1 - (x - exchanges)];
-    uint8_t fields[TUP_MESSAGE_OCTETS];
-    char what[16];
-    uint32_t refusal = tup_read(x->own, x->far, CIRCUITS, from->sent[from->first], from->sent_len[from->first], fields,
-                                sizeof fields);
-    from->first = (from->first + 1) % QUEUE;
-    from->waiting--;
-    if (refusal != 0) {
-        printf("%4u s  %s drops a message, refused %u\n", seconds, x->name, refusal);
-        return;
-    }
-    snprintf(what, sizeof what, "takes %s", heading_name(fields[TUP_MESSAGE_HEADING]));
-    event(x, tup_message_circuit(fields), what, TUP_SIGNAL, fields[TUP_MESSAGE_HEADING], fields[TUP_MESSAGE_ACM]);
+    printf("Both exchanges come up\n");
+    exchange_start(a);
+    exchange_start(b);
+    take_circuit(a);
+    wait_seconds(ROUND_TRIP + 1);
 }
 
-static void deliver_all(void)
+static void scene_call(void)
 {
-    while (exchanges[0].waiting + exchanges[1].waiting > 0)
-        for (int i = 0; i < 2; i++)
-            if (exchanges[1 - i].waiting > 0)
-                receive(&exchanges[i]);
-}
-
-static void run_out(struct exchange *x, uint32_t circuit)
-{
-    unsigned due = wheel[seconds % SLOTS][x - exchanges][circuit];
-    char what[16];
-    for (uint32_t timer = 1; timer < TIMERS; timer++)
-        if (due >> timer & 1u) {
-            stop_timer(x, circuit, timer);
-            snprintf(what, sizeof what, "timer %u on", timer);
-            event(x, circuit, what, TUP_TIMER, timer, 0);
-        }
-}
-
-static void wait_seconds(unsigned count)
-{
-    for (; count > 0; count--) {
-        seconds++;
-        for (int i = 0; i < 2; i++)
-            for (uint32_t circuit = 0; circuit < CIRCUITS; circuit++)
-                run_out(&exchanges[i], circuit);
-        deliver_all();
-    }
-}
-
-/* The host's own restart: no stored table is taken up; what was on its way to it is lost, and every circuit is reset. */
-static void restart(struct exchange *x)
-{
-    exchanges[0].waiting = exchanges[1].waiting = 0;
-    memset(x->table, 0, sizeof x->table);
-    for (uint32_t circuit = 0; circuit < CIRCUITS; circuit++) {
-        for (uint32_t timer = 1; timer < TIMERS; timer++)
-            stop_timer(x, circuit, timer);
-        command(x, circuit, "restarts", TUP_RESTART, 0);
-    }
-}
-
-static void scene_call(struct exchange *a, struct exchange *b)
-{
-    printf("A call from A\n");
+    printf("\nA call from A\n");
     uint32_t circuit = take_circuit(a);
-    deliver_all();
     wait_seconds(2);
-    command(b, circuit, "completes the address of", TUP_ADDRESS_COMPLETE, 5);
-    deliver_all();
+    exchange_command(b, circuit, TUP_ADDRESS_COMPLETE, 5);
     wait_seconds(6);
-    command(b, circuit, "answers", TUP_ANSWER, 0);
-    deliver_all();
+    exchange_command(b, circuit, TUP_ANSWER, 0);
     wait_seconds(90);
-    command(b, circuit, "clears back", TUP_CLEAR_BACK, 0);
-    deliver_all();
+    exchange_command(b, circuit, TUP_CLEAR_BACK, 0);
     wait_seconds(5);
-    command(a, circuit, "releases", TUP_RELEASE, 0);
-    deliver_all();
+    exchange_command(a, circuit, TUP_RELEASE, 0);
+    wait_seconds(1);
 }
 
-static void scene_dual_seizure(struct exchange *a, struct exchange *b)
+static void scene_dual_seizure(void)
 {
     printf("\nA dual seizure on circuit 1, which B controls\n");
-    command(a, 1, "seizes", TUP_SEIZE, 0);
-    command(b, 1, "seizes", TUP_SEIZE, 0);
-    deliver_all();
-    command(a, 1, "fails", TUP_FAIL, TUP_SSB);
-    deliver_all();
+    exchange_command(a, 1, TUP_SEIZE, 0);
+    exchange_command(b, 1, TUP_SEIZE, 0);
+    wait_seconds(1);
+    exchange_command(a, 1, TUP_FAIL, TUP_SSB);
+    wait_seconds(1);
 }
 
-static void scene_lost_block(struct exchange *a, struct exchange *b)
+static void scene_lost_block(void)
 {
     printf("\nA block whose first message is lost\n");
-    a->unheard = 1;
-    command(a, 3, "blocks", TUP_BLOCK, 0);
-    a->unheard = 0;
+    broken = 1;
+    exchange_block(a, 3, 1);
+    broken = 0;
     wait_seconds(10);
-    command(b, 3, "seizes", TUP_SEIZE, 0);
+    exchange_command(b, 3, TUP_SEIZE, 0);
 }
 
-static void scene_restart(struct exchange *a, struct exchange *b)
+static void scene_reset(void)
 {
-    printf("\nA restart of A in the middle of a call, its first resets lost\n");
+    printf("\nMaintenance resets circuit 2 while a call is being set up there\n");
+    exchange_command(b, 2, TUP_SEIZE, 0);
+    wait_seconds(1);
+    exchange_restart(a, 2);
+    wait_seconds(ROUND_TRIP + 1);
+}
+
+static void scene_failure(void)
+{
+    printf("\nThe link fails while A clears a call, and is back after the 60th second: A then restarts all circuits\n");
+    exchange_command(a, 0, TUP_SEIZE, 0);
+    wait_seconds(5);
+    broken = 1;
+    exchange_command(a, 0, TUP_RELEASE, 0);
+    wait_seconds(65);
+    broken = 0;
+    exchange_link_back(a);
+    wait_seconds(ROUND_TRIP + 1);
+}
+
+static void scene_restart(void)
+{
+    printf("\nA's host restarts in the middle of a call, which B then clears\n");
     uint32_t circuit = take_circuit(b);
-    deliver_all();
-    command(a, circuit, "completes the address of", TUP_ADDRESS_COMPLETE, 0);
-    deliver_all();
-    a->unheard = 1;
-    restart(a);
-    a->unheard = 0;
+    wait_seconds(1);
+    exchange_command(a, circuit, TUP_ADDRESS_COMPLETE, 0);
+    wait_seconds(5);
+    exchange_start(a);
     take_circuit(a);
-    wait_seconds(10);
+    exchange_command(b, circuit, TUP_RELEASE, 0);
+    wait_seconds(15);
+}
+
+static void begin(struct exchange *x, const char *name, uint32_t own, uint32_t far)
+{
+    x->name = name, x->own = own, x->far = far;
+    x->round_trip = ROUND_TRIP;
+    x->send = send, x->tell = tell;
+    x->may_run_out = tup_timers_now;
 }
 
 int main(void)
 {
-    struct exchange *a = &exchanges[0], *b = &exchanges[1];
-    for (int i = 0; i < 2; i++)
-        for (unsigned k = 0; k < CIRCUITS * TIMERS; k++)
-            exchanges[i].slot[k / TIMERS][k % TIMERS] = SLOTS;
-    scene_call(a, b);
-    scene_dual_seizure(a, b);
-    scene_lost_block(a, b);
-    scene_restart(a, b);
+    begin(a, "A", 2, 1);
+    begin(b, "B", 1, 2);
+    scene_start();
+    scene_call();
+    scene_dual_seizure();
+    scene_lost_block();
+    scene_reset();
+    scene_failure();
+    scene_restart();
     printf("\nAll circuits at the end\n");
     for (uint32_t circuit = 0; circuit < CIRCUITS; circuit++)
-        printf("circuit %u: A state %u flags %u, B state %u flags %u\n", circuit, tup_record_state(a->table, circuit),
-               tup_record_flags(a->table, circuit), tup_record_state(b->table, circuit), tup_record_flags(b->table, circuit));
+        printf("circuit %u: A %s, flags %u; B %s, flags %u\n", circuit, tup_state_name(tup_record_state(a->table, circuit)),
+               tup_record_flags(a->table, circuit), tup_state_name(tup_record_state(b->table, circuit)),
+               tup_record_flags(b->table, circuit));
     return 0;
 }

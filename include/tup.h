@@ -22,8 +22,8 @@
  * - Where TUP_TIMER_REPEAT and TUP_TIMER_MINUTE are both due, TUP_TIMER_MINUTE runs out instead of the other.
  * - TUP_RESTART is given only on a quiet circuit, or where everything on its way on that circuit, in both directions, is gone.
  * - After its own restart the host never takes up a stored table: the far end has moved on meanwhile, and a stale record that is
- *   legal cannot be told from a true one. It lends zeros, drops what arrives on a circuit until that is quiet, counted from the
- *   host's start, and gives TUP_RESTART there before any other event. So it does on every circuit.
+ *   legal cannot be told from a true one. It begins with tup_await_reset; on every circuit it drops what arrives until that is
+ *   quiet, counted from the host's start, and then gives TUP_RESTART there before any other event.
  * - Wherever a signal was lost otherwise, by a link failure or by refusal 13, no record tells whether the ends still agree: one
  *   end gives TUP_RESTART on every circuit that may be concerned, once it is quiet, and blocks again what is to be blocked.
  */
@@ -384,6 +384,18 @@ static inline uint32_t tup_bad_record(const uint8_t *table, size_t table_len, ui
     while (circuit < circuits && !tup_record_bad(table, circuit))
         circuit++;
     return circuit < circuits ? circuit : circuits;
+}
+
+/* Writes the table with which a host comes up: counter and ranks 0, and every circuit awaiting reset, so that none can be chosen or
+   seized before TUP_RESTART was given there and the far end has answered. */
+static inline void tup_await_reset(uint8_t *table, size_t table_len)
+{
+    uint32_t circuits = tup_circuits(table_len), circuit;
+    size_t i;
+    for (i = 0; i < table_len; i++)
+        table[i] = 0;
+    for (circuit = 0; circuit < circuits; circuit++)
+        table[TUP_RECORD_AT(circuit) + TUP_RECORD_STATE] = TUP_AWAITING_RESET;
 }
 
 #ifdef __cplusplus

@@ -27,6 +27,7 @@ const struct particulars listed[LISTED] = {
 static const char *program = "test";
 static void (*describe_call)(void);
 static uint64_t seed = 20240229;
+static uint64_t given;
 
 static void fail(void)
 {
@@ -43,9 +44,24 @@ static void touched(int signal_number)
     fail();
 }
 
+/* The seed that the environment gives, or the usual one. */
+static void take_seed(void)
+{
+    const char *text = getenv("SEED");
+    char *end = NULL;
+    if (text != NULL && *text != '\0') {
+        seed = strtoull(text, &end, 10);
+        if (*end != '\0')
+            differ("SEED=%s is no number", text);
+    }
+    given = seed;
+}
+
 void harness_begin(const char *name, void (*describe)(void))
 {
     program = name;
+    take_seed();
+    covered("seed %llu", (unsigned long long)seed);
     describe_call = describe;
     signal(SIGSEGV, touched);
     signal(SIGBUS, touched);
@@ -74,6 +90,16 @@ void covered(const char *format, ...)
     va_start(arguments, format);
     say(format, arguments);
     va_end(arguments);
+}
+
+uint64_t seed_given(void)
+{
+    return given;
+}
+
+void draw_from(uint64_t from)
+{
+    seed = from;
 }
 
 /* Steele, Lea and Flood's SplitMix. */

@@ -1,4 +1,4 @@
-/* What the test programs share: a way to fail that says what differed, numbers drawn from a fixed seed, and memory with an
+/* What the test programs share: a way to fail that says what differed, numbers drawn from a seed that is printed, and memory with an
    unreadable stretch on either side, so that a step beyond what was lent ends the program. */
 #ifndef HARNESS_H
 #define HARNESS_H
@@ -19,13 +19,17 @@ extern const struct particulars {
 /* Whether some rule tells this detail from others, or it is a neighbour of one that is told apart. */
 int detail_telling(unsigned detail);
 
-/* Names the program and the function that prints the call under way; failing prints it, touching unlent memory too. */
+/* Names the program and the function that prints the call under way; failing prints it, touching unlent memory too. Prints the seed
+   of what is drawn: SEED in the environment, or a fixed one. */
 void harness_begin(const char *name, void (*describe)(void));
 /* Prints what differed and the call under way, and ends the program. */
 void differ(const char *format, ...);
 /* Prints a line of what was covered. */
 void covered(const char *format, ...);
 
+/* What is drawn follows from the seed; a part that is to draw the same in every run sets one of its own. */
+uint64_t seed_given(void);
+void draw_from(uint64_t from);
 uint64_t draw64(void);
 uint32_t draw(uint32_t below);
 int chance(uint32_t in);

@@ -1,5 +1,5 @@
 // The header from C++: it compiles alone, and the archive links by the names that it gives. What is answered is cases.c's matter.
-#include "tup.h"
+#include "tup_names.h"
 
 int main()
 {
@@ -15,6 +15,16 @@ int main()
     if (tup_counter(table) != 1 || tup_record_rank(table, 0) != 1 || tup_record_rank(table, 1) != 0)
         return 1;
     if (tup_selected_refusal(chosen) != TUP_ACCEPTED || tup_selected_circuit(chosen) != 1 || tup_selected_looked(chosen) != 2)
+        return 1;
+    // -Wswitch tells of a case that is missing here
+    switch (tup_refusal_of_selected(chosen)) {
+    case TUP_ACCEPTED: break;
+    case TUP_NO_SUCH_GROUP: case TUP_NO_SUCH_CIRCUIT: case TUP_NO_SUCH_EVENT: case TUP_FAR_BLOCKED: case TUP_COMMAND_NOT_ALLOWED:
+    case TUP_TIMER_NOT_RUNNING: case TUP_WRONG_LENGTH: case TUP_WRONG_LABEL: case TUP_NO_SUCH_HEADING: case TUP_WRONG_ADDRESS:
+    case TUP_OUTPUT_TOO_SHORT: case TUP_BAD_RECORD: case TUP_COUNTER_FULL: case TUP_NO_CIRCUIT: return 1;
+    }
+    if (!tup_controls(2, 1, 0) || tup_timers(TUP_OUT_SEIZED, 0) != tup_timer_bit(TUP_TIMER_ADDRESS) ||
+        tup_state_name(TUP_IDLE)[0] != 'i')
         return 1;
     return tup_record_state(table, 1) == TUP_OUT_SEIZED && refusal == TUP_ACCEPTED && fields[TUP_MESSAGE_COUNT] == 3 ? 0 : 1;
 }

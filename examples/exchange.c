@@ -1,0 +1,190 @@
+/* One exchange of a small host, as exchange.h says. */
+#include "exchange.h"
+
+#include <string.h>
+
+/* How long each timer runs, in seconds. */
+static const unsigned lengths[RESTART_WAIT] = {0, 25, 50, 30, 10, 60, 10};
+
+/* What an IAM says is the host's: here always the same call. */
+enum { CATEGORY = 10, INDICATORS = 2 };
+static const uint8_t called[] = {5, 5, 5, 0, 1, 2, 3, 15};
+
+/* The wheel. */
+
+static void stop_timer(struct exchange *x, uint32_t circuit, uint32_t timer)
+{
+    unsigned *slot = &x->slot[circuit][timer];
+    if (*slot < SLOTS)
+        x->wheel[*slot][circuit] &= (uint8_t)~tup_timer_bit(timer);
+    *slot = SLOTS;
+}
+
+static void start_timer(struct exchange *x, uint32_t circuit, uint32_t timer, unsigned seconds)
+{
+    stop_timer(x, circuit, timer);
+    unsigned slot = x->slot[circuit][timer] = (x->seconds + seconds) % SLOTS;
+    x->wheel[slot][circuit] |= (uint8_t)tup_timer_bit(timer);
+}
+
+static int running(const struct exchange *x, uint32_t circuit, uint32_t timer)
+{
+    return x->slot[circuit][timer] < SLOTS;
+}
+
+static void stop_timers(struct exchange *x, uint32_t circuit)
+{
+    for (uint32_t timer = 1; timer < TIMERS; timer++)
+        stop_timer(x, circuit, timer);
+}
+
+/* After an event: a timer that ran before and is still wanted runs on. */
+static void set_timers(struct exchange *x, uint32_t circuit, uint32_t wanted)
+{
+    for (uint32_t timer = 1; timer < RESTART_WAIT; timer++)
+        if ((wanted & tup_timer_bit(timer)) == 0)
+            stop_timer(x, circuit, timer);
+        else if (!running(x, circuit, timer))
+            start_timer(x, circuit, timer, lengths[timer]);
+}
+
+/* Quiet circuits. */
+
+int exchange_quiet(const struct exchange *x, uint32_t circuit)
+{
+    return x->seconds - x->last_signal[circuit] > x->round_trip;
+}
+
+/* Puts off what is due until the circuit may be quiet, if nothing comes in between. */
+static void wait_for_quiet(struct exchange *x, uint32_t circuit, uint32_t timer)
+{
+    start_timer(x, circuit, timer, x->last_signal[circuit] + x->round_trip + 1 - x->seconds);
+}
+
+/* The repeating timers run from the circuit's last signal. */
+static void signal_passed(struct exchange *x, uint32_t circuit)
+{
+    static const uint32_t repeating[] = {TUP_TIMER_REPEAT, TUP_TIMER_BLOCK_REPEAT};
+    x->last_signal[circuit] = x->seconds;
+    for (unsigned i = 0; i < 2; i++)
+        if (running(x, circuit, repeating[i]))
+            start_timer(x, circuit, repeating[i], lengths[repeating[i]]);
+}
+
+/* Events. */
+
+/* A step names the heading; the octet of an ACM and the contents of an IAM are put in here. */
+static void send_signal(struct exchange *x, uint32_t circuit, uint32_t heading, uint32_t detail)
+{
+    int iam = heading == TUP_IAM;
+    uint8_t octets[TUP_MESSAGE_MAX];
+    if (heading == TUP_NO_HEADING)
+        return;
+    uint32_t written = tup_write(x->own, x->far, CIRCUITS, circuit, heading, heading == TUP_ACM ? detail : 0, iam ? CATEGORY : 0,
+                                 iam ? INDICATORS : 0, called, iam ? sizeof called : 0, octets, sizeof octets);
+    signal_passed(x, circuit);
+    x->send(x, circuit, octets, tup_written_length(written));
+}
+
+static uint64_t event(struct exchange *x, uint32_t circuit, uint32_t kind, uint32_t code, uint32_t detail)
+{
+    uint64_t answer = tup_step(x->own, x->far, x->table, sizeof x->table, circuit, kind, code, detail);
+    x->tell(x, circuit, kind, code, answer);
+    if (tup_answer_refusal(answer) != TUP_ACCEPTED)
+        return answer;
+    set_timers(x, circuit, tup_timers(tup_answer_state(answer), tup_answer_flags(answer)));
+    send_signal(x, circuit, tup_answer_first(answer), detail);
+    send_signal(x, circuit, tup_answer_second(answer), detail);
+    return answer;
+}
+
+/* Blocks or unblocks where the record is not what the site wants; while a reset is awaited that is not allowed yet. */
+static void block_as_wanted(struct exchange *x, uint32_t circuit)
+{
+    int blocked = (tup_record_flags(x->table, circuit) & TUP_OWN_BLOCK) != 0;
+    if (tup_record_state(x->table, circuit) != TUP_AWAITING_RESET && blocked != x->to_be_blocked[circuit])
+        event(x, circuit, TUP_COMMAND, blocked ? TUP_UNBLOCK : TUP_BLOCK, 0);
+}
+
+static void restart_now(struct exchange *x, uint32_t circuit)
+{
+    stop_timers(x, circuit); /* those of a reset start anew */
+    x->shut[circuit] = 0;
+    event(x, circuit, TUP_COMMAND, TUP_RESTART, 0);
+}
+
+uint64_t exchange_command(struct exchange *x, uint32_t circuit, uint32_t command, uint32_t detail)
+{
+    return event(x, circuit, TUP_COMMAND, command, detail);
+}
+
+int exchange_receive(struct exchange *x, const uint8_t *octets, size_t len)
+{
+    uint8_t fields[TUP_MESSAGE_OCTETS];
+    if (tup_read(x->own, x->far, CIRCUITS, octets, len, fields, sizeof fields) != TUP_ACCEPTED)
+        return 0;
+    uint32_t circuit = tup_message_circuit(fields);
+    signal_passed(x, circuit);
+    if (x->shut[circuit])
+        return 0;
+    event(x, circuit, TUP_SIGNAL, fields[TUP_MESSAGE_HEADING], fields[TUP_MESSAGE_ACM]);
+    block_as_wanted(x, circuit);
+    return 1;
+}
+
+void exchange_block(struct exchange *x, uint32_t circuit, int blocked)
+{
+    x->to_be_blocked[circuit] = blocked;
+    block_as_wanted(x, circuit);
+}
+
+void exchange_restart(struct exchange *x, uint32_t circuit)
+{
+    if (exchange_quiet(x, circuit))
+        restart_now(x, circuit);
+    else
+        wait_for_quiet(x, circuit, RESTART_WAIT);
+}
+
+void exchange_link_back(struct exchange *x)
+{
+    for (uint32_t circuit = 0; circuit < CIRCUITS; circuit++)
+        exchange_restart(x, circuit);
+}
+
+void exchange_start(struct exchange *x)
+{
+    tup_await_reset(x->table, sizeof x->table);
+    memset(x->wheel, 0, sizeof x->wheel);
+    for (uint32_t circuit = 0; circuit < CIRCUITS; circuit++) {
+        for (uint32_t timer = 0; timer < TIMERS; timer++)
+            x->slot[circuit][timer] = SLOTS;
+        x->shut[circuit] = 1;
+        x->last_signal[circuit] = x->seconds; /* what was sent before is still on its way, for all that this host knows */
+        wait_for_quiet(x, circuit, RESTART_WAIT);
+    }
+}
+
+/* What is due on a circuit in this second. After each timer it is asked anew what may run out: the signal that was sent ended the
+   quiet, and the new state may have stopped what else was due. */
+static void run_out(struct exchange *x, uint32_t circuit)
+{
+    const uint8_t *due = &x->wheel[x->seconds % SLOTS][circuit];
+    if ((*due & tup_timer_bit(RESTART_WAIT)) != 0 && exchange_quiet(x, circuit))
+        restart_now(x, circuit);
+    for (uint32_t timer = 1; timer < RESTART_WAIT; timer++)
+        if ((x->may_run_out(*due, exchange_quiet(x, circuit)) & tup_timer_bit(timer)) != 0) {
+            stop_timer(x, circuit, timer);
+            event(x, circuit, TUP_TIMER, timer, 0);
+        }
+    for (uint32_t timer = 1; timer < TIMERS; timer++)
+        if ((*due & tup_timer_bit(timer)) != 0)
+            wait_for_quiet(x, circuit, timer);
+}
+
+void exchange_tick(struct exchange *x)
+{
+    x->seconds++;
+    for (uint32_t circuit = 0; circuit < CIRCUITS; circuit++)
+        run_out(x, circuit);
+}

@@ -1,0 +1,60 @@
+/* One exchange of a small host: all that a host does around tup.h for its group of circuits. It lends the table, sends what a step
+   names and takes what arrives, runs the timers on a wheel of seconds, and restarts circuits when that is safe. It keeps the rules
+   of docs/HOST.md, "Quiet circuits" and "Restarts"; what is on the link, and what is printed, is for its user to say. */
+#ifndef EXCHANGE_H
+#define EXCHANGE_H
+
+#include "tup.h"
+
+enum {
+    CIRCUITS = 4,
+    RESTART_WAIT = 7, /* on the wheel beside timers 1 to 6: a restart that waits until its circuit is quiet */
+    TIMERS = 8,
+    SLOTS = 64 /* no timer is longer than the wheel */
+};
+
+struct exchange {
+    const char *name;
+    uint32_t own, far;
+    unsigned round_trip; /* seconds in which a signal crosses, is answered and the answer is back, at the longest */
+
+    /* Called with what is to go on the link, and after each event with what was answered. */
+    void (*send)(struct exchange *x, uint32_t circuit, const uint8_t *octets, size_t len);
+    void (*tell)(struct exchange *x, uint32_t circuit, uint32_t kind, uint32_t code, uint64_t answer);
+    /* Which of the timers that are due may run out: tup_timers_now. A pointer so that the tests can show what happens without. */
+    uint32_t (*may_run_out)(uint32_t due, int quiet);
+
+    uint8_t table[TUP_TABLE_OCTETS(CIRCUITS)];
+    unsigned seconds;
+    unsigned last_signal[CIRCUITS];  /* when one was last sent or received on the circuit */
+    int shut[CIRCUITS];              /* since the host came up, the circuit has not been restarted yet */
+    int to_be_blocked[CIRCUITS];     /* the site wants it blocked: a restart forgets our block, the host does not */
+    unsigned slot[CIRCUITS][TIMERS]; /* where on the wheel each timer is, SLOTS for nowhere */
+    uint8_t wheel[SLOTS][CIRCUITS];  /* for each second and circuit the timers that are due, as bits */
+};
+
+/* The host comes up, for the first time or again: every circuit is restarted once it is quiet, and shut until then. */
+void exchange_start(struct exchange *x);
+
+/* A command of call control or of maintenance. Answers as tup_step does. */
+uint64_t exchange_command(struct exchange *x, uint32_t circuit, uint32_t command, uint32_t detail);
+
+/* Octets that came from the link. Answers whether they were a signal and went to its circuit: on one that is shut it is dropped. */
+int exchange_receive(struct exchange *x, const uint8_t *octets, size_t len);
+
+/* The site blocks a circuit, or ends the block, whatever state it is in. */
+void exchange_block(struct exchange *x, uint32_t circuit, int blocked);
+
+/* A reset by maintenance: at once if the circuit is quiet, else when it is. */
+void exchange_restart(struct exchange *x, uint32_t circuit);
+
+/* The link has been out of order and is back, or signals were lost in another way: no record tells whether the far end agrees. */
+void exchange_link_back(struct exchange *x);
+
+/* A second has gone by. */
+void exchange_tick(struct exchange *x);
+
+/* Whether nothing was sent or received on the circuit for longer than a round trip. */
+int exchange_quiet(const struct exchange *x, uint32_t circuit);
+
+#endif
