@@ -80,15 +80,49 @@ static void send_signal(struct exchange *x, uint32_t circuit, uint32_t heading, 
     uint8_t octets[TUP_MESSAGE_MAX];
     if (heading == TUP_NO_HEADING)
         return;
+    /* Not refused: the heading is a step's, and the detail that of an address complete which was taken. */
     uint32_t written = tup_write(x->own, x->far, CIRCUITS, circuit, heading, heading == TUP_ACM ? detail : 0, iam ? CATEGORY : 0,
                                  iam ? INDICATORS : 0, called, iam ? sizeof called : 0, octets, sizeof octets);
     signal_passed(x, circuit);
     x->send(x, circuit, octets, tup_written_length(written));
 }
 
-static uint64_t event(struct exchange *x, uint32_t circuit, uint32_t kind, uint32_t code, uint32_t detail)
+/* The circuit begins anew: what arrives is dropped until it is quiet, and then it is restarted. */
+static void shut(struct exchange *x, uint32_t circuit)
+{
+    uint8_t *record = x->table + TUP_RECORD_AT(circuit);
+    record[TUP_RECORD_STATE] = TUP_AWAITING_RESET;
+    record[TUP_RECORD_FLAGS] = 0;
+    stop_timers(x, circuit);
+    x->shut[circuit] = 1;
+    x->last_signal[circuit] = x->seconds; /* what was sent before is still on its way, for all that this host knows */
+    wait_for_quiet(x, circuit, RESTART_WAIT);
+}
+
+static void forget_ranks(struct exchange *x)
+{
+    memset(x->table, 0, TUP_COUNTER_OCTETS);
+    for (uint32_t circuit = 0; circuit < CIRCUITS; circuit++)
+        memset(x->table + TUP_RECORD_AT(circuit) + TUP_RECORD_RANK, 0, TUP_RECORD_OCTETS - TUP_RECORD_RANK);
+}
+
+/* A step, and what is to be done where memory was overwritten: with a counter that is full the event is given again, and a circuit
+   with a bad record begins anew. */
+static uint64_t step(struct exchange *x, uint32_t circuit, uint32_t kind, uint32_t code, uint32_t detail)
 {
     uint64_t answer = tup_step(x->own, x->far, x->table, sizeof x->table, circuit, kind, code, detail);
+    if (tup_answer_refusal(answer) == TUP_COUNTER_FULL) {
+        forget_ranks(x);
+        answer = tup_step(x->own, x->far, x->table, sizeof x->table, circuit, kind, code, detail);
+    }
+    if (tup_answer_refusal(answer) == TUP_BAD_RECORD)
+        shut(x, circuit);
+    return answer;
+}
+
+static uint64_t event(struct exchange *x, uint32_t circuit, uint32_t kind, uint32_t code, uint32_t detail)
+{
+    uint64_t answer = step(x, circuit, kind, code, detail);
     x->tell(x, circuit, kind, code, answer);
     if (tup_answer_refusal(answer) != TUP_ACCEPTED)
         return answer;
@@ -127,9 +161,9 @@ int exchange_receive(struct exchange *x, const uint8_t *octets, size_t len)
     signal_passed(x, circuit);
     if (x->shut[circuit])
         return 0;
-    event(x, circuit, TUP_SIGNAL, fields[TUP_MESSAGE_HEADING], fields[TUP_MESSAGE_ACM]);
+    uint64_t answer = event(x, circuit, TUP_SIGNAL, fields[TUP_MESSAGE_HEADING], fields[TUP_MESSAGE_ACM]);
     block_as_wanted(x, circuit);
-    return 1;
+    return tup_answer_refusal(answer) == TUP_ACCEPTED;
 }
 
 void exchange_block(struct exchange *x, uint32_t circuit, int blocked)
@@ -159,9 +193,7 @@ void exchange_start(struct exchange *x)
     for (uint32_t circuit = 0; circuit < CIRCUITS; circuit++) {
         for (uint32_t timer = 0; timer < TIMERS; timer++)
             x->slot[circuit][timer] = SLOTS;
-        x->shut[circuit] = 1;
-        x->last_signal[circuit] = x->seconds; /* what was sent before is still on its way, for all that this host knows */
-        wait_for_quiet(x, circuit, RESTART_WAIT);
+        shut(x, circuit);
     }
 }
 

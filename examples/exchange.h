@@ -27,7 +27,7 @@ struct exchange {
     uint8_t table[TUP_TABLE_OCTETS(CIRCUITS)];
     unsigned seconds;
     unsigned last_signal[CIRCUITS];  /* when one was last sent or received on the circuit */
-    int shut[CIRCUITS];              /* since the host came up, the circuit has not been restarted yet */
+    int shut[CIRCUITS];              /* since the host came up, or found its record bad, the circuit was not restarted yet */
     int to_be_blocked[CIRCUITS];     /* the site wants it blocked: a restart forgets our block, the host does not */
     unsigned slot[CIRCUITS][TIMERS]; /* where on the wheel each timer is, SLOTS for nowhere */
     uint8_t wheel[SLOTS][CIRCUITS];  /* for each second and circuit the timers that are due, as bits */
@@ -39,7 +39,7 @@ void exchange_start(struct exchange *x);
 /* A command of call control or of maintenance. Answers as tup_step does. */
 uint64_t exchange_command(struct exchange *x, uint32_t circuit, uint32_t command, uint32_t detail);
 
-/* Octets that came from the link. Answers whether they were a signal and went to its circuit: on one that is shut it is dropped. */
+/* Octets that came from the link. Answers whether they were a signal and its circuit took it: on one that is shut it is dropped. */
 int exchange_receive(struct exchange *x, const uint8_t *octets, size_t len);
 
 /* The site blocks a circuit, or ends the block, whatever state it is in. */

@@ -151,6 +151,36 @@ static void coming_up(void)
     expect("the octets behind the table", memcmp(after, table + TUP_TABLE_OCTETS(GROUP), sizeof after) == 0, 1);
 }
 
+/* What docs/HOST.md says of codes that have changed places, at a dual seizure on circuit 0, which the end with code 2 controls: with
+   them in place that end goes on; exchanged at that end, both give way. A message read with them exchanged is refused 8. */
+static void codes_exchanged(void)
+{
+    static const uint8_t release_guard[] = {0x02, 0x40, 0x00, 0x00, 0x00, 0x17};
+    uint8_t fields[TUP_MESSAGE_OCTETS];
+    for (uint32_t exchanged = 0; exchanged < 2; exchanged++) {
+        put_record(0, TUP_OUT_SEIZED, 0);
+        now.number = exchanged;
+        uint64_t answer = tup_step(2 - exchanged, 1 + exchanged, table, TUP_TABLE_OCTETS(GROUP), 0, TUP_SIGNAL, TUP_IAM, 0);
+        expect("the end that controls", tup_answer_state(answer), exchanged ? TUP_IN_SEIZED : TUP_OUT_SEIZED);
+        expect("a message", tup_read(2 - exchanged, 1 + exchanged, GROUP, release_guard, sizeof release_guard, fields, sizeof fields),
+               exchanged ? TUP_WRONG_LABEL : TUP_ACCEPTED);
+    }
+    put_record(0, TUP_OUT_SEIZED, 0);
+    expect("the other end", tup_answer_state(tup_step(1, 2, table, TUP_TABLE_OCTETS(GROUP), 0, TUP_SIGNAL, TUP_IAM, 0)), TUP_IN_SEIZED);
+}
+
+/* With far block every good record stays good, as docs/HOST.md says to a host that wants circuits left out of a choice. */
+static void left_out(void)
+{
+    for (uint32_t state = 0; state <= TUP_AWAITING_RESET; state++)
+        for (uint32_t flags = 0; flags < 16; flags++) {
+            put_record(2, state, flags);
+            int bad = tup_record_bad(table, 2);
+            put_record(2, state, flags | TUP_FAR_BLOCK);
+            expect("bad with far block", !bad && tup_record_bad(table, 2), 0);
+        }
+}
+
 /* A field as an enum is its number. */
 static void enums(void)
 {
@@ -226,6 +256,8 @@ int main(void)
     control();
     lengths();
     coming_up();
+    codes_exchanged();
+    left_out();
     enums();
     enums_of_messages();
     names();

@@ -1,6 +1,6 @@
 /* Two hosts made of examples/exchange.c over a link on which a signal takes its time, driven at random: calls, blocks, resets by
-   maintenance, hosts that go down at any moment and come up again, a link that fails and loses what is on it, and waits through the
-   60th second. By the rules of docs/HOST.md the ends agree at every quiet moment. Then each rule is broken in turn, and a fixed seed
+   maintenance, hosts that go down at any moment and come up again, a link that fails and loses what is on it, memory that is
+   overwritten, and waits through the 60th second. By the rules of docs/HOST.md the ends agree at every quiet moment. Then each rule is broken in turn, and a fixed seed
    shows that the ends come to disagree without it. `hosts search` looks for such seeds, where a change has made others of them. */
 #include "../examples/exchange.h"
 #include "harness.h"
@@ -68,7 +68,8 @@ static int disagreed, both_due;
 static unsigned load; /* how much the hosts want, busy at one time and calm at another */
 
 static struct {
-    unsigned long seconds, events, quiet, apart[STATES][STATES], marks[2][2], lost, starts, failures, resets, waited, minutes, both;
+    unsigned long seconds, events, quiet, apart[STATES][STATES], marks[2][2], lost, starts, failures, resets, waited, minutes, both,
+        overwritten;
 } seen;
 
 static void describe(void)
@@ -150,8 +151,8 @@ static void look(uint32_t circuit)
         uint32_t flags = tup_record_flags(ends[end].table, circuit);
         state[end] = tup_record_state(ends[end].table, circuit);
         own[end] = (flags & TUP_OWN_BLOCK) != 0, far[end] = (flags & TUP_FAR_BLOCK) != 0;
-        if (down[end] > 0 || ends[end].shut[circuit])
-            return;
+        if (down[end] > 0 || ends[end].shut[circuit] || tup_record_bad(ends[end].table, circuit))
+            return; /* the host is not there, or has yet to begin anew on this circuit */
     }
     if (!trusted[circuit] || on_way[circuit] > 0 || awaits(state[0]) || awaits(state[1]))
         return;
@@ -234,6 +235,18 @@ static void comes_up(struct exchange *x)
         memcpy(x->table, stored, sizeof stored);
 }
 
+/* Memory is overwritten: a record becomes a bad one, or the counter is at its largest. */
+static void overwritten(struct exchange *x, uint32_t circuit)
+{
+    seen.overwritten++;
+    if (chance(2)) {
+        memset(x->table, 255, TUP_COUNTER_OCTETS);
+        return;
+    }
+    x->table[TUP_RECORD_AT(circuit) + TUP_RECORD_STATE] = (uint8_t)(STATES + draw(256 - STATES));
+    trusted[circuit] = 0;
+}
+
 static void link_is_back(void)
 {
     if (run->broken == LOSS_RESTARTS_NOT) {
@@ -299,6 +312,8 @@ static void one_end(unsigned end)
         command(x, draw(CIRCUITS));
     if (chance(100) && down[end] == 0)
         reset(x, draw(CIRCUITS));
+    if (run->broken == NOTHING_BROKEN && chance(1000) && down[end] == 0)
+        overwritten(x, draw(CIRCUITS));
     if (chance(3000) && down[end] == 0)
         goes_down(end);
 }
@@ -366,6 +381,7 @@ static void expect_all_seen(void)
         expect_seen(seen.marks[i / 2][i % 2], "blocks at the ends");
     expect_seen(seen.lost, "signals lost");
     expect_seen(seen.starts, "a host that comes up");
+    expect_seen(seen.overwritten, "memory overwritten");
     expect_seen(seen.waited, "a reset that waits");
     expect_seen(seen.both, "timers 4 and 5 due in one second");
 }
@@ -381,8 +397,8 @@ static void kept(const struct run *of, unsigned long seconds)
     expect_all_seen();
     covered("%s: %lu seconds, %lu events, agreed at %lu quiet moments; %lu signals lost, the link failed %lu times, a host came up %lu "
             "times", run->what, seen.seconds, seen.events, seen.quiet, seen.lost, seen.failures, seen.starts);
-    covered("  %lu resets, of which %lu waited; timer 5 ran out %lu times, with timer 4 due beside it %lu times", seen.resets,
-            seen.waited, seen.minutes, seen.both);
+    covered("  %lu resets, of which %lu waited; timer 5 ran out %lu times, with timer 4 due beside it %lu times; memory "
+            "was overwritten %lu times", seen.resets, seen.waited, seen.minutes, seen.both, seen.overwritten);
 }
 
 static int shown(const struct run *of, uint64_t seed, unsigned long seconds)
