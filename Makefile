@@ -17,7 +17,8 @@ all: lib
 need:
 	tools/need $(purpose)
 
-# The archive, its headers and the replay program in one place.
+# The archive, its headers and the replay program in one place. The archive and the program are of one run (&:), the headers alone
+# are copied without it.
 lib: $(proved) $(headers)
 
 $(proved) &: $(sources)
