@@ -1,7 +1,7 @@
 /* docs/RULES.md against the archive. The page's tables come in the plain form that tools/rules prints, in the file named as the
-   argument. Every legal record, both roles, every listed event: the answer and the table must be what the rows say, and where no row
-   applies, what the page says of that. No two rows may apply to one case, and each row must apply in each of its states. The legal
-   flags, the listed events and the names are compared as well. */
+   argument. Every legal record, both roles, every listed event: the answer and the table must be what the rows say, and where no
+   row applies, what the page says of that. No two rows may apply to one case, and each row must apply in each of its states. The
+   legal flags, the listed events and the names are compared as well. */
 #include "harness.h"
 #include "tup.h"
 #include "tup_names.h"
@@ -130,6 +130,21 @@ static void read_legal(const char *line)
             legal[i / OCTET][i % OCTET] = 1;
 }
 
+static void read_failures(const char *line)
+{
+    char codes[WORD];
+    uint8_t failures[OCTET] = {0};
+    unsigned count = 0;
+    if (sscanf(line, "failures %127s", codes) != 1)
+        differ("no failures in the plain form: %s", line);
+    mark_listed(codes, failures);
+    for (unsigned i = 0; i < OCTET; i++)
+        count += failures[i];
+    for (unsigned i = FAILURES_FROM; i < HEADINGS; i++)
+        if (!failures[headings[i]] || count != HEADINGS - FAILURES_FROM)
+            differ("the failures on the page are not the ones that the tests know");
+}
+
 static void read_name(const char *line)
 {
     char word[WORD], number[WORD], name[WORD];
@@ -154,6 +169,8 @@ static void read_page(const char *path)
             read_row(line);
         else if (strncmp(line, "legal ", 6) == 0)
             read_legal(line);
+        else if (strncmp(line, "failures ", 9) == 0)
+            read_failures(line);
         else
             read_name(line);
     }
