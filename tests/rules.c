@@ -14,11 +14,11 @@ enum { OCTET = 256, ROWS_MAX = 200, WORD = 128, KINDS = 4 };
 enum { CONTROLLING = 1, NOT_CONTROLLING = 2 };
 enum { SAME = OCTET, DETAIL = OCTET }; /* a new state, and a heading sent, that are none of the octets */
 
-/* A row as printed, and how often it applied in each of its states. */
+/* A row as printed, how often it applied in each of its states, and how often it said what would not have held without it. */
 static struct row {
     unsigned line, kind, roles, needed, barred, sent[2], set, cleared, next, indication;
     uint8_t codes[OCTET], details[OCTET], states[OCTET];
-    unsigned long applied[OCTET];
+    unsigned long applied[OCTET], told;
 } rows[ROWS_MAX];
 static unsigned rows_read;
 
@@ -115,6 +115,7 @@ static void read_row(const char *line)
     mark_listed(details, row->details);
     mark_listed(states, row->states);
     read_sent(sent, row->sent);
+    now.row = NULL;
 }
 
 static void read_legal(const char *line)
@@ -175,7 +176,6 @@ static void read_page(const char *path)
             read_name(line);
     }
     fclose(file);
-    now.row = NULL;
 }
 
 /* What the page says of one case. */
@@ -205,17 +205,6 @@ static struct row *row_of_case(void)
     return found;
 }
 
-static struct says by_row(struct row *row)
-{
-    struct says says = {0, row->next, (now.flags & ~row->cleared) | row->set, row->indication, {0, 0}};
-    if (row->next == SAME)
-        says.state = now.state;
-    for (int i = 0; i < 2; i++)
-        says.sent[i] = row->sent[i] == DETAIL ? now.detail : row->sent[i];
-    row->applied[now.state]++;
-    return says;
-}
-
 /* A signal is discarded; a command is refused 5, or 4 for seize in idle with far block; a timer is refused 6. */
 static struct says by_no_row(void)
 {
@@ -228,6 +217,19 @@ static struct says by_no_row(void)
         says.refusal = TUP_FAR_BLOCKED;
     else
         says.refusal = TUP_COMMAND_NOT_ALLOWED;
+    return says;
+}
+
+static struct says by_row(struct row *row)
+{
+    struct says without = by_no_row();
+    struct says says = {0, row->next, (now.flags & ~row->cleared) | row->set, row->indication, {0, 0}};
+    if (row->next == SAME)
+        says.state = now.state;
+    for (int i = 0; i < 2; i++)
+        says.sent[i] = row->sent[i] == DETAIL ? now.detail : row->sent[i];
+    row->applied[now.state]++;
+    row->told += memcmp(&says, &without, sizeof says) != 0;
     return says;
 }
 
@@ -246,7 +248,7 @@ static struct says with_rank(struct says says)
 static void compare(const char *what, uint64_t got, uint64_t want)
 {
     if (got != want)
-        differ("%s: %llx, and by the page %llx%s", what, (unsigned long long)got, (unsigned long long)want,
+        differ("%s: 0x%llx, and by the page 0x%llx%s", what, (unsigned long long)got, (unsigned long long)want,
                now.row == NULL ? ", where no row applies" : "");
 }
 
@@ -298,10 +300,13 @@ static void every_record(void)
 
 static void every_row_applied(void)
 {
-    for (const struct row *row = rows; row < rows + rows_read; row++)
+    for (const struct row *row = rows; row < rows + rows_read; row++) {
         for (unsigned state = 0; state < OCTET; state++)
             if (row->states[state] && row->applied[state] == 0)
                 differ("the row in line %u of the page applies to no record in state %u", row->line, state);
+        if (row->told == 0)
+            differ("the row in line %u of the page says nothing that would not hold without it", row->line);
+    }
 }
 
 /* Refusal 12 is for the records that are not legal. */
