@@ -1,7 +1,7 @@
-/* Cases written down by hand, each with the answer that document 01 gives: its own list (P1 to P10 and the ones to be run by a
-   program), and one for each place where its words could be read in two ways; then those of release ranks and refusal 13, which
-   document 02's T-01 adds, and of the choice of a circuit and refusal 14, which its T-02 adds. They hold the archive, and the
-   reference as well, to numbers that neither of them computed. */
+/* Cases written down by hand, each with the answer that the rules give: those of docs/RULES.md, "Cases" (P1 to P10 and the ones to
+   be run by a program), and one for each place where the rules were open and docs/DECISIONS.md says how they were read; then those
+   of release ranks and refusal 13, and of the choice of a circuit and refusal 14. They hold the archive, and the reference as well,
+   to numbers that neither of them computed. */
 #include "harness.h"
 #include "reference.h"
 #include "tup.h"

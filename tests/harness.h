@@ -6,11 +6,11 @@
 #include <stddef.h>
 #include <stdint.h>
 
-/* The 22 headings of document 01, the failures last. */
+/* The 22 headings of docs/RULES.md, the failures last. */
 enum { HEADINGS = 22, FAILURES_FROM = 13 };
 extern const uint8_t headings[HEADINGS];
 
-/* The events of document 01 by kind, code and detail; an ACM's octet, which changes nothing, is 0. */
+/* The events of docs/RULES.md by kind, code and detail; an ACM's octet, which changes nothing, is 0. */
 enum { LISTED = 54 };
 extern const struct particulars {
     uint8_t kind, code, detail;

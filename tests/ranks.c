@@ -1,5 +1,5 @@
 /* Release ranks by the archive's own answers, with no reference beside it: which events free a circuit, held against the list that
-   document 01's tables come to; and random events on groups, after each of which the counter and every rank must be what a plain
+   the printed tables come to; and random events on groups, after each of which the counter and every rank must be what a plain
    list of the releases so far says. */
 #include "harness.h"
 #include "tup.h"

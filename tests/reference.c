@@ -1,5 +1,5 @@
-/* The rules of document 01 in the order of its sections: events on a record, messages on the link, the replay of a trace. What
-   document 02 adds stands behind the events: T-01's release ranks and T-02's choice of a circuit. */
+/* The rules once more, written from the project's documents 01 and 02 alone: events on a record, release ranks and the choice of a
+   circuit, messages on the link, the replay of a trace. docs/RULES.md has the same rules in words and tables. */
 #include "reference.h"
 
 #include <string.h>

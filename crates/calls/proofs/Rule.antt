@@ -1,4 +1,4 @@
--- The table's rule, over all of its entries: each number is one of those that exist, and means what document 01's table says at its place. `column`
+-- The table's rule, over all of its entries: each number is one of those that exist, and means what the printed table says at its place. `column`
 -- has the test computed at each column.
 -- Assumes nothing.
 use mathlib.Core.Path.{_≡_, refl, ap, _∙_, sym, subst}

@@ -1,4 +1,4 @@
--- The call part of document 01's table "Signals that arrive", at each state, role and signal, and the numbers that stand for it (document 02, T-06).
+-- The call part of the rows for signals (docs/RULES.md, "Signals that arrive"), at each state, role and signal, and the numbers that stand for it.
 -- Assumes nothing.
 use mathlib.Core.Bool.{Bool, true, false, cond, _&&_, _||_}
 use Prim.Native.Nat.{ℕ, _/_, _%_}

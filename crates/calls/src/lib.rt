@@ -1,5 +1,5 @@
-// The call part of document 01's table "Signals that arrive" as one constant table: state, role and signal to the new state, the signal
-// sent and the indication. Block and unblock are in `marks`.
+// The call part of the rows for signals (docs/RULES.md, "Signals that arrive") as one constant table: state, role and signal to the new
+// state, the signal sent and the indication. Block and unblock are in `marks`.
 use circuit::Signal;
 ghost use mathlib.Core.Path.{_≡_};
 ghost use mathlib.Core.Bool.{cond};
@@ -14,7 +14,7 @@ pub struct Call {
     pub ind: u8,
 }
 
-// A column a signal, in the order in which document 01 lists the headings; a line an entry: its signal, its state, and whether our end controls the
+// A column a signal, in the order in which docs/RULES.md lists the headings; a line an entry: its signal, its state, and whether our end controls the
 // circuit (c) or not (n). The first digit is the new state; the second is the indication where nothing is sent, and a is CLF with 10, b CLF with 6,
 // c RLG with 0, d RLG with 5, e RLG with 6.
 const CALLS: [[u8; 26]; 14] = [

@@ -1,4 +1,5 @@
-// Runs the worked cases of documents 01 and 02, which stand in the file `stdin`: prints each line that is answered otherwise, and how many were run.
+// Runs the worked cases of docs/RULES.md and docs/DECISIONS.md, which stand in the file `stdin`: prints each line that is
+// answered otherwise, and how many were run.
 use libc::STDIN_FILENO;
 use libc::STDOUT_FILENO;
 use lines::Line;

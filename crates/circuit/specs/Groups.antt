@@ -1,4 +1,4 @@
--- A group (document 01, "Group, records, numbers"): which are refused 1, and which end controls a circuit.
+-- A group (docs/RULES.md, "Group and circuits"): which are refused 1, and which end controls a circuit.
 -- Assumes nothing.
 use mathlib.Core.Bool.{Bool, cond, _||_}
 use Prim.Native.Nat.{ℕ, _%_}

@@ -1,4 +1,4 @@
--- A circuit's record (document 01, "Group, records, numbers"): what is changed in one, and which are allowed.
+-- A circuit's record (docs/RULES.md, "Records"): what is changed in one, and which are allowed.
 -- Assumes nothing.
 use mathlib.Core.Bool.{Bool, true, false, not, _&&_, _||_, cond}
 use Prim.Native.Nat.{ℕ, _+_}

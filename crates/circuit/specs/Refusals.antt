@@ -1,4 +1,4 @@
--- A list of refusals in document 01's order: the first condition that holds gives the number, and 0 stands for none.
+-- A list of refusals in their order (docs/RULES.md, "Refusals"): the first condition that holds gives the number, and 0 stands for none.
 -- Assumes nothing.
 use mathlib.Core.Path.{_≡_}
 use mathlib.Core.Bool.{Bool, true, false, cond}

@@ -1,4 +1,4 @@
-// The words of document 01: point code and circuit number, a circuit's record, signals, commands, timers and events, what an
+// The words of docs/RULES.md: point code and circuit number, a circuit's record, signals, commands, timers and events, what an
 // event answers, and a row of a printed table. No rule of the gateway stands here: those are in `signals`, `commands` and `step`.
 ghost use mathlib.Core.Path.{_≡_};
 ghost use mathlib.Core.Bool.{_&&_, _||_};

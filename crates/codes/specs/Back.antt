@@ -1,4 +1,4 @@
--- The numbers of an event (document 01): its kind, its code and its detail. These and no others are read as that event.
+-- The numbers of an event (docs/RULES.md, "Events and answers"): its kind, its code and its detail. These and no others are read as that event.
 -- Assumes nothing.
 use Prim.Native.Nat.{ℕ, _≤_}
 use Rattle.circuit.specs.declared.Charging.{Charging}

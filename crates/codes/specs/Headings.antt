@@ -1,4 +1,4 @@
--- The heading octets of the signals, H0 + 16 · H1 (Q.723; document 01, "Signals that arrive").
+-- The heading octets of the signals, H0 + 16 · H1 (Q.723; docs/RULES.md, "Events and answers").
 -- Assumes nothing.
 use mathlib.Core.Bool.{cond}
 use mathlib.Core.List.{List, [], _∷_}

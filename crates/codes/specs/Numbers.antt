@@ -1,4 +1,4 @@
--- An event by numbers: its kind (1 signal, 2 command, 3 timer), its code and its detail, as document 01 lists them. What it does not list is
+-- An event by numbers: its kind (1 signal, 2 command, 3 timer), its code and its detail, as docs/RULES.md lists them. What it does not list is
 -- refusal 3.
 -- Assumes nothing.
 use mathlib.Core.Bool.{Bool, true, false, cond, _&&_, _||_}

@@ -1,4 +1,4 @@
-// The paper's numbers for signals and events: a failure's heading and the signal of a heading; the event of a kind, a code and a detail.
+// The numbers of docs/RULES.md for signals and events: a failure's heading and the signal of a heading; the event of a kind, a code and a detail.
 use circuit::AddressType;
 use circuit::Charging;
 use circuit::Command;

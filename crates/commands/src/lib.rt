@@ -1,5 +1,5 @@
-// What a command of the host and a timer do to a circuit: document 01's second table and its timers, a function each. A record is two octets, its
-// state and its flags; the answer is one number (`answers`).
+// What a command of the host and a timer do to a circuit: the rows of docs/RULES.md, "Commands" and "Timers", a function each. A record is two
+// octets, its state and its flags; the answer is one number (`answers`).
 use circuit::AddressType;
 use circuit::Charging;
 use circuit::Command;

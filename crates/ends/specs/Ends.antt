@@ -1,4 +1,5 @@
--- Two ends of one circuit: what is claimed of them (document 01, demand 3). What can happen to the pair is `Machine`, of ends that hold a record.
+-- Two ends of one circuit: what is claimed of them (docs/RULES.md, "The three demands", the third). What can happen to the pair is `Machine`, of ends
+-- that hold a record.
 -- How it is proved: whatever the queues, the two ends together stand in one of some 150 rooms, which the prover finds by following every event from
 -- two idle ends. One computed test shows that no event leads out of them and that the ends agree in each; blocks are followed beside that.
 -- `proofs/Lib.antt` leads through the files: `Rooms` says what a room is, `Explored` finds and tests them, `Claim` and `Heard` have the theorems.

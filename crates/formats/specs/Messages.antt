@@ -11,7 +11,7 @@ abbrev pub isKnown : Named → Bool
 isKnown (Known s) = true
 isKnown Unknown = false
 
--- a heading that document 01 lists
+-- a heading that is listed (docs/RULES.md, "Events and answers")
 abbrev pub listed : ℕ → Bool
 listed heading = isKnown (signalOf heading 0)
 

@@ -1,4 +1,4 @@
--- How address signals lie in octets (Q.723; document 01, "Messages on the link"), and which are refused. The reader and the writer both go by these.
+-- How address signals lie in octets (Q.723; docs/RULES.md, "Messages on the link"), and which are refused. Reader and writer both go by these.
 -- Assumes nothing.
 use mathlib.Core.Bool.{Bool, false, cond, _||_}
 use mathlib.Core.List.{List, [], _∷_}

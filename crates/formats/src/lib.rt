@@ -1,5 +1,5 @@
-// What the reader and the writer of messages share (Q.723, "Formats and codes"; document 01, "Messages on the link"): how long a message is by
-// its heading, and which address signals are refused.
+// What the reader and the writer of messages share (Q.723, "Formats and codes"; docs/RULES.md, "Messages on the link"): how long a message is
+// by its heading, and which address signals are refused.
 ghost use mathlib.Core.Path.{_≡_};
 ghost use mathlib.Core.Bool.{cond};
 ghost use Rattle.formats.specs.Octets.{badCode, badCodes};

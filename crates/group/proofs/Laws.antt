@@ -153,7 +153,7 @@ module _ (own far : ℕ) (table : List ℕ) (cic : ℕ) (event : Found) where
           let k : o ≡ Rows.refused (o .refusal) (recordAt table cic) = keepsFound (controls own far cic) (recordAt table cic) event (eqb-false _ _ e) in
           record { refusal = refl; shown = sym (ap (λ (x : Outcome). x .after) k); stored = sym (ap (λ (x : Outcome). x .after) k); sends = sym (ap (λ (x : Outcome). x .sends) k); ind = sym (ap (λ (x : Outcome). x .ind) k) }
 
-  -- each refusal number is given exactly when documents 01 and 02 say
+  -- each refusal number is given exactly when docs/RULES.md says
   pub refusals : stepIn own far table cic event .answer .refusal ≡ refusalIn own far table cic event
   unfolding stepIn
   refusals = numbered (refusalIn own far table cic event)

@@ -1,4 +1,4 @@
--- Release ranks (document 02, T-01): what every event does to the counter and the ranks, and that ranks tell which circuit was freed later.
+-- Release ranks (docs/RULES.md, under that title): what every event does to the counter and the ranks, and that ranks tell which was freed later.
 -- Assumes nothing.
 use mathlib.Core.Path.{_≡_, refl, sym, _∙_}
 use mathlib.Core.Bool.{Bool, true, false, not, cond, _&&_}

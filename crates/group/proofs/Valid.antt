@@ -28,7 +28,7 @@ use Rattle.group.specs.Table.{outcomeAt, stepIn}
 use Rattle.group.proofs.Laws.{byCases, refusals}
 use Rattle.group.specs.Runs.{Follows, Follows.start, Follows.next}
 
--- every record is one that document 01 allows
+-- every record is a legal one
 abbrev pub ValidTable : List ℕ → Type 0
 ValidTable table = (i : ℕ) → i < recordsIn (length table) → T (allowedAt table i)
 

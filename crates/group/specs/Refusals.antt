@@ -1,4 +1,4 @@
--- When an event on a circuit of a table is refused, in document 01's order: 1, 2, 12, 3, then 5, 4 or 6; and last document 02's 13.
+-- When an event on a circuit of a table is refused (docs/RULES.md, "Refusals"), in the order 1, 2, 12, 3, then 5, 4 or 6, and last 13.
 -- Assumes nothing.
 use mathlib.Core.Bool.{not, _&&_}
 use mathlib.Core.List.{List, [], _∷_, _++_}

@@ -1,5 +1,5 @@
--- An event on a circuit of a group whose records lie in a lent table (document 01; the release
--- ranks of document 02, T-01): what is answered, and what the table holds then.
+-- An event on a circuit of a group whose records lie in a lent table (docs/RULES.md, "Events
+-- and answers" and "Release ranks"): what is answered, and what the table holds then.
 -- Assumes nothing.
 use mathlib.Core.Bool.{cond}
 use mathlib.Core.List.{List}

@@ -1,4 +1,4 @@
-// A group of circuits whose records lie in a lent table: an event on one of its circuits, with every refusal of document 01. The answer is one
+// A group of circuits whose records lie in a lent table: an event on one of its circuits, with every refusal of docs/RULES.md. The answer is one
 // number (`answers`).
 use circuit::Cic;
 use circuit::PointCode;

@@ -1,4 +1,4 @@
--- The cases of the paper hold: each is computed.
+-- The cases hold: each is computed.
 -- Assumes nothing.
 use mathlib.Core.Path.{_≡_, refl}
 use mathlib.Core.List.{map}

@@ -1,4 +1,4 @@
--- Cases of the paper: P10, and messages that are read and written or refused, each with what is wanted.
+-- Cases: P10 of docs/RULES.md, and messages that are read and written or refused, each with what is wanted.
 -- Assumes nothing.
 use mathlib.Core.List.{List, [], _∷_, _++_}
 use Prim.Native.Nat.{ℕ}

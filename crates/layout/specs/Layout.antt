@@ -50,7 +50,7 @@ recordOf s f = rec s (own f) (far f) (bla f) (uba f)
 abbrev pub recordAt : List ℕ → ℕ → Record
 recordAt table i = recordOf (stateAt table i) (flagsAt table i)
 
--- two octets are a record that document 01 allows: refusal 12 is for the others
+-- two octets are a legal record (docs/RULES.md, "Records"): refusal 12 is for the others
 abbrev pub allowed : (state flags : ℕ) → Bool
 allowed s f = leb f 15 && valid (recordOf s f)
 

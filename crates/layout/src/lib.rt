@@ -99,7 +99,7 @@ pub fn stored_at(table: &[u8], cic: Cic) -> Stored
     }
 }
 
-// Whether two octets, state and flags, are a record that document 01 allows: refusal 12 is for the others.
+// Whether two octets, state and flags, are a legal record (docs/RULES.md, "Records"): refusal 12 is for the others.
 pub fn allowed(state: u8, flags: u8) -> bool
     ensures { λ r. ⌜ r ≡ allowed state flags ⌝ }
 {

@@ -1,4 +1,4 @@
--- The marks of a circuit as an octet of flags (document 01, "Group, records, numbers"): 1 own block, 2 far block, 4 awaiting BLA, 8 awaiting UBA.
+-- The marks of a circuit as an octet of flags (docs/RULES.md, "Records"): 1 own block, 2 far block, 4 awaiting BLA, 8 awaiting UBA.
 -- Assumes nothing.
 use mathlib.Core.Bool.{Bool, cond}
 use Prim.Native.Nat.{ℕ, _+_, _/_, _%_}

@@ -1,5 +1,5 @@
 -- What the program does to the marks: which flags are legal, and what the signals BLO, UBL, BLA, UBA and RSC and the commands block and unblock do to
--- them and send. The contracts of this crate cite it; no promise leans on it, since `step` shows that with the calls it comes to document 01's tables.
+-- them and send. The contracts of this crate cite it; no promise leans on it, since `step` shows that with the calls it comes to the printed tables.
 -- Assumes nothing.
 use mathlib.Core.Bool.{Bool, true, false, not, cond, _&&_, _||_}
 use Prim.Native.Nat.{ℕ}

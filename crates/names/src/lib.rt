@@ -1,4 +1,4 @@
-// The paper's numbers by name, as tup.h has them: states, flags, indications, refusals and the headings that an event sends. No functions.
+// The numbers of docs/RULES.md by name, as tup.h has them: states, flags, indications, refusals and the headings that an event sends. No functions.
 
 // A circuit's states.
 pub const IDLE: u8 = 0;

@@ -1,5 +1,5 @@
--- Any two answers that a contract allows are equal, and so are any two contents of what is lent to be written (document 01, "How tight the
--- contracts are"). This is said of the contracts themselves: `f.Learnt κs a x s` is what the contract of the function f says of its answer x and of
+-- Any two answers that a contract allows are equal, and so are any two contents of what is lent to be written (docs/RULES.md, "The
+-- three demands"). This is said of the contracts themselves: `f.Learnt κs a x s` is what the contract of the function f says of its answer x and of
 -- its arguments at exit s, where a was passed (κs: the lifetimes of what is lent). One statement a crate, and then what the entries for C say.
 -- Assumes nothing.
 use mathlib.Core.Path.{_≡_, sym, _∙_}
@@ -328,7 +328,7 @@ ofTrace = (
 abbrev pub Says : {K : Type 0} {A X E : K → Type 0} → (C P : (κs : K) → A κs → X κs → E κs → Type 0) → Type 0
 Says {K} {A} {X} {E} C P = (κs : K) (a : A κs) (x : X κs) (s : E κs) → C κs a x s → P κs a x s
 
--- `calls::on_signal(con, state, s)`, which looks into the constant table (document 02, T-06): its answer is the call part of the printed row, the new
+-- `calls::on_signal(con, state, s)`, which looks into the constant table (T-06): its answer is the call part of the printed row, the new
 -- state, the CLF or RLG that is sent, and the indication
 pub callsSay : Says onCall.Learnt (λ κs a x s. a .1 .0 ≤ 12 → x ≡ callPart (onSignal (a .0) (unmarked (a .1 .0)) (a .1 .1 .0)))
 callsSay κs a x s h low = h ∙ isCallPart (a .0) (a .1 .0) (a .1 .1 .0) low

@@ -1,5 +1,5 @@
--- Demand 1: "Every table, event and message gets an answer; nothing undefined happens. Public entries refuse bad input themselves, by document 01's
--- numbers. A refusal sends nothing and leaves the table and every output buffer unchanged."
+-- Demand 1 (docs/RULES.md, "The three demands"): every table, event and message gets an answer, and nothing undefined happens. The public entries
+-- refuse bad input themselves, by the numbers that stand there under "Refusals". A refusal sends nothing and leaves what is lent unchanged.
 -- That there is an answer for all arguments is what the check of the program shows: no public function has a `requires`, and each ends. Here stands
 -- which refusal is given exactly when, and that it changes nothing. `firstOf` is the number of the first rule that holds, 0 for none.
 -- Assumes nothing.
@@ -53,7 +53,7 @@ use Rattle.inverse.proofs.Host.{intoKept, fromKept, fromFilled, intoFilled}
 
 -- EVENTS
 
--- "Order for events: 1, 2, 12, 3, then 5, 4 or 6", and last 13 (document 02, T-01)
+-- the order for events: 1, 2, 12, 3, then 5, 4 or 6, and last 13
 abbrev eventRules : (own far : ℕ) → List ℕ → (cic : ℕ) → Found → List Rule
 eventRules own far table cic event =
     refuse 1 (badGroup own far (recordsIn (length table)))
@@ -87,12 +87,12 @@ timer6 r t = refl
 pub recordRefused : (c : Bool) (r : Record) (f : Found) → stepFound c r f .refusal ≡ firstOf (refuse 12 (not (valid r)) ∷ foundRules r f)
 recordRefused = refusesFound
 
--- 1: "a point code above 16383, codes equal, or 0 or more than 4096 records"
+-- 1: a point code is above 16383, the two are equal, or there are 0 or more than 4096 records
 pub groupRefused : (own far records : ℕ) → badGroup own far records ≡ (ltb 16383 own || ltb 16383 far || eqb own far || (eqb records 0 || ltb 4096 records))
 groupRefused own far records = refl
 
--- 3: "no such signal, command or timer, a detail not listed". Numbers are read as an event exactly if they are its own; a signal's detail is ACM's
--- octet, else 0.
+-- 3: no such signal, command or timer, or a detail that is not listed. Numbers are read as an event exactly if they are its own; a signal's detail is
+-- ACM's octet, else 0.
 pub signalsRead : (s : Signal) → octetOf s ≤ 255 → eventOf 1 (headingOf s) (octetOf s) ≡ Is (Arrives s)
 signalsRead s h = eventBack (Arrives s) h
 
@@ -105,7 +105,7 @@ timersRead t = eventBack (RunsOut t) tt
 pub noOthersRead : (kind code detail : ℕ) (e : Event) → eventOf kind code detail ≡ Is e → numbersOf e ≡ (kind, code, detail)
 noOthersRead = numbersBack
 
--- 12: "the circuit's record has a state above 12 or flags not allowed". The flags that are allowed, of 0 to 15, by state; above 15 none are.
+-- 12: the circuit's record has a state above 12, or flags that are not legal there. The legal flags, of 0 to 15, by state; above 15 none are.
 abbrev flagsIn : (state : ℕ) → List Bool
 flagsIn s =
     table.allowed s 0 ∷ table.allowed s 1 ∷ table.allowed s 2 ∷ table.allowed s 3 ∷ table.allowed s 4 ∷ table.allowed s 5 ∷ table.allowed s 6 ∷ table.allowed s 7
@@ -148,7 +148,7 @@ pub idleNever12 : {own far : ℕ} {table : List ℕ} (octets : ℕ) → Follows 
     → (cic : ℕ) (event : Found) → stepIn own far table cic event .answer .refusal ≡ 12 → ⊥
 idleNever12 = never12
 
--- "sends nothing, gives indication 0, changes nothing lent"
+-- a refusal sends nothing, gives indication 0 and changes nothing lent
 pub refusedKeeps : (own far : ℕ) (table : List ℕ) (cic : ℕ) (event : Found) → (stepIn own far table cic event .answer .refusal ≡ 0 → ⊥)
     → let s = stepIn own far table cic event in (s .table ≡ table) × (s .answer .sends ≡ Nothing) × (s .answer .ind ≡ 0)
 refusedKeeps own far table cic event n = let k = group.refused own far table cic event n in (k .table, k .sends, k .ind)
@@ -190,7 +190,7 @@ readGiven = intoGiven
 pub readTaken : (own far count : ℕ) (xs buffer : List ℕ) → (readInto own far count xs buffer .answer ≡ 0) ↔ Clear (readerRules own far count xs (length buffer))
 readTaken = intoTaken
 
--- "Writer: 1, 2, 9, 3, 10, 11."
+-- the order for the writer: 1, 2, 9, 3, 10, 11
 abbrev writerRules : (own far count : ℕ) → Said → (room : ℕ) → List Rule
 writerRules own far count m room =
     refuse 1 (badGroup own far count)

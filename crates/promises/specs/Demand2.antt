@@ -1,6 +1,7 @@
--- Demand 2: "Each event gives exactly the new record, signals and indication of document 01; messages are read and written as Q.723 lays them out."
+-- Demand 2 (docs/RULES.md, "The three demands"): each event gives exactly the new record, signals and indication of the tables there, and messages
+-- are read and written as laid out there.
 -- The tables are definitions: `signals/specs/Table`, `commands/specs/Tables`, and the order of refusals before them `step/specs/Step`. The contracts
--- of the program say that it answers by them (`Contracts`). Here stands what follows from the definitions, in document 01's words and order.
+-- of the program say that it answers by them (`Contracts`). Here stands what follows from the definitions, in the order of docs/RULES.md.
 -- Assumes nothing.
 use mathlib.Core.Path.{_≡_, refl, ap}
 use mathlib.Core.Bool.{Bool, true, false, not, cond, _&&_}
@@ -167,7 +168,7 @@ timerSendsOne c r t v = oneSent c r (RunsOut t) v tt
 pub howManySent : (s t : Signal) → (sent Nothing ∷ sent (One s) ∷ sent (Two s t) ∷ []) ≡ 0 ∷ 1 ∷ 2 ∷ []
 howManySent s t = refl
 
--- "The exchange with the higher point code is controlling for even CICs, the other for odd ones": of two different codes exactly one controls,
+-- the higher point code controls the even CICs, the lower one the odd ones: of two different codes exactly one controls,
 -- whatever the circuit
 pub byParityOfCic : (own far cic : ℕ) → controls own far cic ≡ eqb (cic % 2) (cond (ltb far own) 0 1)
 byParityOfCic own far cic = refl
@@ -226,7 +227,7 @@ restarts = restartForgets
 
 -- MESSAGES ON THE LINK
 
--- "Reading what was written, at the end addressed and in a group that has the circuit, gives the message back": the fields that the reader finds
+-- what was written is read back at the end addressed, in a group that has the circuit: the fields that the reader finds
 -- are those of the message that was said.
 pub readBack : (own far records : ℕ) (m : Said) (buffer : List ℕ) → writing own far records m buffer .answer .refusal ≡ 0
     → (theirs : ℕ) → badGroup far own theirs ≡ false → m .cic < theirs
@@ -240,7 +241,7 @@ pub carriedOver : (own far count : ℕ) (m : Said) (buffer : List ℕ) → write
     (told .answer ≡ 0) × Holds (told .buffer) (fieldsSaid m)
 carriedOver = carried
 
--- "and writing what was read gives the octets with spare bits and filler cleared": in the sender's group, wherever there is room.
+-- what was read and is written again gives the octets, with spare bits and filler at 0: in the sender's group, wherever there is room.
 pub writtenBack : (own far records : ℕ) (xs : List ℕ) → ((i : ℕ) → i < length xs → getD xs i 0 < 256) → fieldsOf own far records xs .refusal ≡ 0
     → (buffer : List ℕ) → length xs ≤ length buffer
     → writing far own records (saidOf (fieldsOf own far records xs)) buffer

@@ -192,7 +192,7 @@ neverNext own far cic different r s w y q n = notBoth (unheard (r .state) s) (is
 
 -- NOT OF NOTHING
 
--- Runs from two idle ends, C at the end that controls the circuit and N at the other, with commands (code, detail) and timers by document 01's
+-- Runs from two idle ends, C at the end that controls the circuit and N at the other, with commands (code, detail) and timers by their
 -- numbers: each of the stages, a release, a failed call, dual seizure, blocks and their end, BLO crossing IAM, a restart, a CLF lost by one,
 -- its repetition by timer 4, and timer 1.
 pub runsShown : runs cases

@@ -1,5 +1,5 @@
--- The requests of document 02 that have landed: T-01, "Remember when a circuit was freed", T-02, "Choose the circuit for us", and T-06, "Show the
--- rules as a table".
+-- What later requests added: T-01, release ranks (docs/RULES.md, "Release ranks"), T-02, the choice of a circuit ("Choice of a circuit"), and T-06,
+-- the rules as a constant table ("Forms in the code").
 -- Assumes nothing.
 use mathlib.Core.Path.{_≡_, refl, ap}
 use mathlib.Core.Bool.{Bool, true, false, not, cond, _&&_, _||_}
@@ -40,7 +40,7 @@ use Rattle.inverse.proofs.Refusals.{answered}
 abbrev idled : (before after : List ℕ) → (cic : ℕ) → Bool
 idled before after cic = not (eqb (stateAt before cic) 0) && eqb (stateAt after cic) 0
 
--- "whenever an event takes a record from another state to idle the counter goes up by one and the record takes it"; no other event changes the
+-- an event that takes a record from another state to idle raises the counter by one, and the record takes it; no other event changes the
 -- counter or a rank. Of every table and every event.
 module _ (own far : ℕ) (table : List ℕ) (cic : ℕ) (event : Found) where
   abbrev after : List ℕ
@@ -62,8 +62,8 @@ pub freeingSignals : (c : Bool) (s : ℕ)
     ≡ ((not c && (eqb s 1 || eqb s 5)) || (leb 6 s && leb s 12)) ∷ (eqb s 5 || eqb s 12) ∷ (leb 6 s && leb s 11) ∷ []
 freeingSignals c s = refl
 
--- "Both start at 0; the rank is a 64-bit number": of every table that events lead to from zeros, ranks are at most the counter, and of two circuits
--- that have been freed the ranks differ
+-- counter and ranks start at 0 and are 64-bit numbers: of every table that events lead to from zeros, ranks are at most the counter, and of two
+-- circuits that have been freed the ranks differ
 pub fromZeros : {own far : ℕ} {table : List ℕ} (octets : ℕ) → Follows own far (idle octets) table
     → (length table ≡ length (idle octets))
     × ((i : ℕ) → i < recordsIn (length table) → rankAt table i ≤ counterIn table)
@@ -125,13 +125,13 @@ module _ (own far : ℕ) (table : List ℕ) where
   pub chosenQualifies : selectIn own far table .refusal ≡ 0 → (chosen < n) × T (qualifies table chosen)
   chosenQualifies = choices.chosenQualifies own far table
 
-  -- "first, of the idle circuits without far block that we control, the one released longest ago": where one of ours qualifies, the chosen one is
-  -- ours, and none of ours was released before it; "equal ranks go to the lower CIC"
+  -- first, of the qualifying circuits that we control, the one released longest ago: where one of ours qualifies, the chosen one is
+  -- ours, and none of ours was released before it; of equal ranks it is the lower CIC
   pub oursFirst : selectIn own far table .refusal ≡ 0 → (j : ℕ) → j < n → T (qualifies table j && controls own far j)
       → T (controls own far chosen) × (rankAt table chosen ≤ rankAt table j) × (rankAt table chosen ≡ rankAt table j → chosen ≤ j)
   oursFirst r j h t = let k = choices.ofOurs own far table r j h t in (k .0, k .1 .rank, k .1 .number)
 
-  -- "if there are none, of those we do not control, the one released latest": one of theirs is chosen only where none of ours qualifies, and none
+  -- if there are none, of those that we do not control, the one released latest: one of theirs is chosen only where none of ours qualifies, and none
   -- that qualifies was released after it; equal ranks again go to the lower CIC
   pub elseTheirs : selectIn own far table .refusal ≡ 0 → (T (controls own far chosen) → ⊥) → (j : ℕ) → j < n → T (qualifies table j)
       → (T (controls own far j) → ⊥) × (rankAt table j ≤ rankAt table chosen) × (rankAt table chosen ≡ rankAt table j → chosen ≤ j)
@@ -143,7 +143,7 @@ module _ (own far : ℕ) (table : List ℕ) where
       → selectIn own far table .looked ≡ cond (some n (λ i. (qualifies table i && controls own far i) && eqb (rankAt table i) 0)) (chosen + 1) n
   lookedAt = choices.counts own far table
 
-  -- "Refusals: 1 and 12 (any bad record, sought first and not counted), then 14, given exactly if no circuit qualifies"
+  -- refusals: 1; 12 for any bad record of the table; then 14, exactly if no circuit qualifies
   abbrev choiceRules : List Rule
   choiceRules = refuse 1 (badGroup own far n) ∷ refuse 12 (some n (λ i. not (allowedAt table i))) ∷ refuse 14 (not (some n (qualifies table))) ∷ []
 
@@ -153,7 +153,7 @@ module _ (own far : ℕ) (table : List ℕ) where
   pub choiceGiven : (k : ℕ) → (selectIn own far table .refusal ≡ suc k) ↔ Given (suc k) choiceRules
   choiceGiven = answered choiceRules (selectIn own far table .refusal) choiceRefused
 
-  -- "each reports circuit 0 and count 0"
+  -- each refusal reports circuit 0 and count 0
   pub refusedReportsNone : (selectIn own far table .refusal ≡ 0 → ⊥) → (chosen ≡ 0) × (selectIn own far table .looked ≡ 0)
   refusedReportsNone = choices.reportsNone own far table
 

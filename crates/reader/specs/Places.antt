@@ -1,4 +1,4 @@
--- Where the fields of a message lie in its octets (Q.723; document 01, "Messages on the link").
+-- Where the fields of a message lie in its octets (Q.723; docs/RULES.md, "Messages on the link").
 -- Assumes nothing.
 use mathlib.Core.List.{List, [], _∷_}
 use Prim.Native.Nat.{ℕ, _/_, _%_, _^_}

@@ -1,4 +1,4 @@
--- What the reader answers (document 01, "Messages on the link" and "Refusal numbers").
+-- What the reader answers (docs/RULES.md, "Messages on the link" and "Refusals").
 -- Assumes nothing.
 use mathlib.Core.Bool.{Bool, cond, not, _&&_, _||_}
 use mathlib.Core.List.{List, [], _∷_}

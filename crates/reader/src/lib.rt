@@ -1,4 +1,4 @@
-// The reader of messages on the link (document 01; Q.723): octets that arrived, as a message or as the refusal of one.
+// The reader of messages on the link (docs/RULES.md, "Messages on the link"; Q.723): octets that arrived, as a message or as the refusal of one.
 use circuit::Cic;
 use circuit::PointCode;
 use codes::Named;

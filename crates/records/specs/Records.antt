@@ -1,4 +1,4 @@
--- The records of a trace (document 01, "The trace and its replay"): how long one is, what it says, and what stands at the start of some octets.
+-- The records of a trace (docs/RULES.md, "The trace and its replay"): how long one is, what it says, and what stands at the start of some octets.
 -- Assumes nothing.
 use mathlib.Core.Bool.{Bool, cond, not, _||_}
 use mathlib.Core.List.{List}

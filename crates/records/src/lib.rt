@@ -1,5 +1,5 @@
-// The records of a trace (document 01, "The trace and its replay"): how long one is, what it says, the group at the start, and a reader
-// that holds a trace and its place there.
+// The records of a trace (docs/RULES.md, "The trace and its replay"): how long one is, what it says, the group at the start, and a
+// reader that holds a trace and its place there.
 use circuit::PointCode;
 ghost use mathlib.Core.Path.{_≡_};
 ghost use Prim.Native.Nat.{_≤_};

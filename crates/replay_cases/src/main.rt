@@ -1,5 +1,5 @@
 // Runs the replay of the library over small traces, each in parts of every size from one octet up, and counts the runs whose text is not
-// the one that document 01 asks for.
+// the one that docs/RULES.md asks for ("The trace and its replay").
 use libc::STDOUT_FILENO;
 use trace::Stage;
 ghost use Prim.Native.Nat.{_≤_};

@@ -1,4 +1,4 @@
--- What holds of every choice, in the words of document 02 (T-02) and of Q.724, 2.4, method 2.
+-- What holds of every choice, in the words of docs/RULES.md ("Choice of a circuit") and of Q.724, 2.4, method 2.
 -- Assumes nothing.
 use mathlib.Core.Path.{_≡_, refl, _∙_, subst}
 use mathlib.Core.Bool.{Bool, true, false, not, cond}
@@ -149,7 +149,7 @@ module _ (own far : ℕ) (table : List ℕ) where
       (not, isLater table _ j (best₂ u .goesFirst j h (both (qualifies table j) _ t (not-T (controls own far j) not)))))
       (λ g a o u r. absurd (omega arith))
 
-  -- each refusal is given exactly when document 02 says: 1; then 12 for any bad record; then 14 if no circuit qualifies
+  -- each refusal is given exactly when docs/RULES.md says: 1; then 12 for any bad record; then 14 if no circuit qualifies
   pub refusals : s .refusal ≡ firstOf (selectRules own far table)
   unfolding selectIn choice
   refusals = numbered (firstOf (selectRules own far table))

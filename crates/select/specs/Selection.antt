@@ -1,4 +1,4 @@
--- Which circuit to seize (document 02, T-02, by Q.724, 2.4, method 2). This says what the answer is, not how it is found.
+-- Which circuit to seize (docs/RULES.md, "Choice of a circuit"; Q.724, 2.4, method 2). This says what the answer is, not how it is found.
 -- Assumes nothing.
 use mathlib.Core.Bool.{Bool, not, cond, _&&_, _||_}
 use mathlib.Core.List.{List, [], _∷_}
@@ -52,7 +52,7 @@ choice mine table n =
     cond (some n (ours mine table)) (taken (best n (ours mine table) (earlier table)) (looked mine table n))
     (taken (best n (theirs mine table) (later table)) n)
 
--- a record that document 01 does not allow
+-- a record that is not legal
 abbrev pub bad : List ℕ → ℕ → Bool
 bad table i = not (allowedAt table i)
 

@@ -1,4 +1,4 @@
-// Which circuit to seize: Q.724, 2.4, method 2, as document 02 has it. Nothing is seized, and nothing lent is changed.
+// Which circuit to seize (docs/RULES.md, "Choice of a circuit"; Q.724, 2.4, method 2). Nothing is seized, and nothing lent is changed.
 use circuit::Cic;
 use circuit::PointCode;
 use layout::Stored;

@@ -88,7 +88,7 @@ holds e c r v = atValid (claims e) (tested e) c r v
 pub kept : (c : Bool) (r : Record) (e : Event) → T (valid r) → T (valid (step c r e .after))
 kept c r e v = left (staysValid c r e) _ (holds e c r v)
 
--- each refusal number is given exactly when the paper says
+-- each refusal number is given exactly when docs/RULES.md says
 pub refuses : (c : Bool) (r : Record) (e : Event) → T (valid r) → step c r e .refusal ≡ refusal r e
 refuses c r e v = eqb→eq _ _ (left (refusesRight c r e) _ (right (staysValid c r e) _ (holds e c r v)))
 

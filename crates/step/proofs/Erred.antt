@@ -1,4 +1,4 @@
--- The three ways in which earlier versions erred (document 01), shut out.
+-- The three ways in which earlier versions erred (docs/RULES.md, "Three earlier errors"), shut out.
 -- Assumes nothing.
 use mathlib.Core.Path.{_≡_, refl, sym, ap, _∙_, subst}
 use mathlib.Core.Bool.{Bool, true, false, not, cond, _&&_, _||_}

@@ -1,4 +1,4 @@
--- A refusal sends nothing, gives indication 0 and keeps the record, and its number is the one that document 01 gives, whatever the record.
+-- A refusal sends nothing, gives indication 0 and keeps the record, and its number is the one that docs/RULES.md gives, whatever the record.
 -- Assumes nothing.
 use mathlib.Core.Path.{_≡_, refl}
 use mathlib.Core.Bool.{Bool, true, false, not, cond}

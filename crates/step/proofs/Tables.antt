@@ -1,4 +1,4 @@
--- Calls and marks together are document 01's tables, for every legal record, role and event: one test that is computed, and the law from it.
+-- Calls and marks together are the printed tables, for every legal record, role and event: one test that is computed, and the law from it.
 -- Assumes nothing.
 use mathlib.Core.Path.{_≡_, refl, sym, ap, _∙_, subst}
 use mathlib.Core.Bool.{Bool, true, false, cond, _&&_}

@@ -1,4 +1,5 @@
--- Which events free a circuit (document 02, T-01): those that take a record from another state to idle. `Always` shows that the list is exact.
+-- Which events free a circuit (docs/RULES.md, "Release ranks"): those that take a record from another state to idle. `Always` shows that the list is
+-- exact.
 -- Assumes nothing.
 use mathlib.Core.Bool.{Bool, false, not, _&&_, _||_}
 use Prim.Native.Nat.{ℕ}

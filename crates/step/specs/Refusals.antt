@@ -1,4 +1,4 @@
--- When each refusal is given (document 01, "Refusal numbers"), apart from the tables: 12 first, 3 for an event that is none, then 5, 4 or 6.
+-- When each refusal is given (docs/RULES.md, "Refusals"), apart from the tables: 12 first, 3 for an event that is none, then 5, 4 or 6.
 -- Assumes nothing.
 use mathlib.Core.Bool.{Bool, true, false, not, _&&_, _||_}
 use mathlib.Core.List.{List, [], _∷_}

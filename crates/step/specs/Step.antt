@@ -1,4 +1,4 @@
--- One event on one circuit's record (document 01): what it answers, with its refusals in the order 12, 3, then 5, 4 or 6.
+-- One event on one circuit's record (docs/RULES.md): what it answers, with its refusals in the order 12, 3, then 5, 4 or 6.
 -- Assumes nothing.
 use mathlib.Core.Bool.{Bool, cond, true, false}
 use Rattle.circuit.specs.declared.Record.{Record}

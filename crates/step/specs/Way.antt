@@ -1,6 +1,6 @@
 -- The program's way through an event on a record of two octets: calls and marks put together, what the marks send before what the call sends; and
 -- what the step of such a record answers. The contracts of this crate cite it; no promise leans on it, since `Tables` in proofs/ shows that it comes
--- to document 01's tables, and the contract of `group::step` speaks of those.
+-- to the printed tables, and the contract of `group::step` speaks of those.
 -- Assumes nothing.
 use mathlib.Core.Bool.{Bool, true, false, cond, _&&_}
 use Prim.Native.Nat.{ℕ}

@@ -1,4 +1,4 @@
--- The lines that a replay prints (document 01, "The trace and its replay"), as octets.
+-- The lines that a replay prints (docs/RULES.md, "The trace and its replay"), as octets.
 -- Assumes nothing.
 use mathlib.Core.Bool.{cond}
 use mathlib.Core.List.{List, [], _∷_, _++_}

@@ -1,4 +1,4 @@
--- The definition of a replay, computed at document 01's whole case.
+-- The definition of a replay, computed at the whole case of docs/RULES.md.
 -- Assumes nothing.
 use mathlib.Core.Path.{_≡_, refl}
 use Rattle.text.specs.Numbers.{digitsWithin, decimal}

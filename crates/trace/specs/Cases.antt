@@ -3,7 +3,7 @@
 use mathlib.Core.List.{List, [], _∷_}
 use Prim.Native.Nat.{ℕ}
 
--- document 01's whole case: a record a line
+-- the whole case of docs/RULES.md: a record a line
 abbrev pub wholeCase : List ℕ
 wholeCase =
     0x00 ∷ 0x02 ∷ 0x00 ∷ 0x01 ∷ 0x00 ∷ 0x02 ∷ 0x00 ∷

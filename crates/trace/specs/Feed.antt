@@ -111,7 +111,7 @@ tableOctets Bad = 0
 tableOctets (Runs r) = grouped.tableOctets (min (r .circuits) 4096)
 tableOctets (Cut next) = 0
 
--- the last line that document 01 prints for each case of a `Stage`, where `rest` is what was not taken of the whole trace: "bad group" where no good group
+-- the last line that is printed for each case of a `Stage`, where `rest` is what was not taken of the whole trace: "bad group" where no good group
 -- came; among the events "end" and their number if nothing is left, else "cut" and the next event's ordinal; "cut" and that ordinal where the trace was cut
 unfoldable pub lastLine : Stage → List ℕ → List ℕ
 lastLine Start rest = badGroupLine

@@ -1,4 +1,4 @@
--- What a replay prints (document 01, "The trace and its replay"), as octets, from the octets of the whole trace.
+-- What a replay prints (docs/RULES.md, "The trace and its replay"), as octets, from the octets of the whole trace.
 -- Assumes nothing.
 use mathlib.Core.Bool.{cond}
 use mathlib.Core.List.{List, [], _++_}
@@ -41,7 +41,7 @@ eventText r table e = line (lineOf (r .next) (e .circuit) (happens r table e .an
 abbrev pub onward : Running → Running
 onward r = record { own = r .own; far = r .far; circuits = r .circuits; next = r .next + 1 }
 
--- what document 01 prints for each case of an `Item`, where `next` is the next event's ordinal: for an event its line and all that follows, as `text`
+-- what is printed for each case of an `Item`, where `next` is the next event's ordinal: for an event its line and all that follows, as `text`
 -- gives it; for an octet that starts no event, and for a record cut short, "cut" and that ordinal; where nothing more stands, "end" and the number of events
 unfoldable pub textAt : Item → (Recorded → List ℕ) → ℕ → List ℕ
 textAt (Event e) text next = text e

@@ -1,4 +1,5 @@
-// The replay of a trace (document 01, "The trace and its replay"): it is fed the trace in parts, and writes its lines into lent room. The table is the group's, all zero before the first event.
+// The replay of a trace (docs/RULES.md, "The trace and its replay"): it is fed the trace in parts, and writes its lines into lent room.
+// The table is the group's, all zero before the first event.
 use circuit::Cic;
 use circuit::PointCode;
 use records::Item;

@@ -1,4 +1,4 @@
--- What the writer answers, and what the buffer holds then (document 01, "Messages on the link" and "Refusal numbers").
+-- What the writer answers, and what the buffer holds then (docs/RULES.md, "Messages on the link" and "Refusals").
 -- Assumes nothing.
 use mathlib.Core.Bool.{Bool, cond, not, _&&_, _||_}
 use mathlib.Core.List.{List, [], _∷_, _++_}

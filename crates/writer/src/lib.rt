@@ -1,4 +1,4 @@
-// The writer of messages on the link (document 01; Q.723): a message by numbers, as octets in a lent buffer.
+// The writer of messages on the link (docs/RULES.md, "Messages on the link"; Q.723): a message by numbers, as octets in a lent buffer.
 use circuit::Cic;
 use circuit::PointCode;
 ghost use mathlib.Core.Path.{_≡_};
