@@ -1,9 +1,13 @@
-// Replays a trace from standard input to standard output (document 01, "The trace and its replay"). It reads and writes in parts, so
-// that a trace may be of any length. Where reading or writing fails it says so on standard error, and prints no last line.
+// Replays a trace from a file or standard input to standard output (document 01, "The trace and its replay"). It reads and writes in
+// parts, so that a trace may be of any length. Where reading or writing fails it says so on standard error, and prints no last line.
 use libc::STDERR_FILENO;
-use libc::STDIN_FILENO;
 use libc::STDOUT_FILENO;
 use trace::Stage;
+
+mod arguments; // arguments.rt: what the program was started with
+mod help; // help.rt: what it says of itself
+mod vocabulary; // vocabulary.rt: the words for the numbers
+mod wording; // wording.rt: the lines with those words
 
 // More is to be done; the trace was read to its end or as far as it goes; reading or writing failed.
 const GOING: u8 = 0;
@@ -11,6 +15,12 @@ const GOING: u8 = 0;
 const READ: u8 = 1;
 
 const FAILED: u8 = 2;
+
+// The descriptor that the trace is read from, and whether the lines are written with words for numbers.
+struct Job {
+    input: i32,
+    names: bool,
+}
 
 // Where the replay stands, which octets of the buffer are read and not yet taken, and whether to go on.
 struct Progress {
@@ -20,8 +30,7 @@ struct Progress {
     status: u8,
 }
 
-fn failed(stage: Stage, why: &[u8]) -> Progress {
-    io::write_all(STDERR_FILENO, why);
+fn stopped(stage: Stage) -> Progress {
     Progress {
         stage: stage,
         at: 0,
@@ -30,42 +39,65 @@ fn failed(stage: Stage, why: &[u8]) -> Progress {
     }
 }
 
+fn refused(stage: Stage, why: &[u8]) -> Progress {
+    io::write_all(STDERR_FILENO, why);
+    stopped(stage)
+}
+
+// A call of the system failed: the system's own reason is said too.
+fn failed(stage: Stage, what: &[u8]) -> Progress {
+    os::fail(what);
+    stopped(stage)
+}
+
+// Writes whole lines in the form that was asked for.
+fn write(job: Job, lines: &[u8], named: &mut [u8]) -> bool {
+    if job.names {
+        return wording::write(lines, named);
+    }
+    io::write_all(STDOUT_FILENO, lines)
+}
+
 // Takes what can be taken of the octets that are there, and writes the lines.
 fn take(
-    stage: Stage,
-    at: usize,
-    have: usize,
+    job: Job,
+    p: Progress,
     table: &mut [u8],
     buffer: &[u8],
     room: &mut [u8],
+    named: &mut [u8],
 ) -> Progress {
+    let stage = p.stage;
+    let at = p.at;
+    let have = p.have;
     let octets = trace::table_octets(stage);
     if table.len() < octets || have < at || buffer.len() < have {
-        return failed(stage, b"replay: out of place\n");
+        return refused(stage, b"tup-replay: out of place\n");
     }
     let fed = trace::feed(stage, &mut table[..octets], &buffer[at..have], room);
+    let next = at + fed.taken;
     let written = fed.written;
-    if !io::write_all(STDOUT_FILENO, &room[..written]) {
-        return failed(stage, b"replay: cannot write\n");
+    if !write(job, &room[..written], named) {
+        return failed(stage, b"tup-replay: cannot write");
     }
     let after = fed.stage;
     Progress {
         stage: after,
-        at: at + fed.taken,
+        at: next,
         have: have,
         status: GOING,
     }
 }
 
 // Reads more behind what is not taken yet. A buffer that is full of what cannot be taken is that of a replay with no further ordinal.
-fn read(stage: Stage, at: usize, have: usize, buffer: &mut [u8]) -> Progress {
+fn read(input: i32, stage: Stage, at: usize, have: usize, buffer: &mut [u8]) -> Progress {
     let kept = trace::keep(buffer, at, have);
     if buffer.len() <= kept {
-        return failed(stage, b"replay: too many events\n");
+        return refused(stage, b"tup-replay: too many events\n");
     }
-    let got = libc::read(STDIN_FILENO, &mut buffer[kept..]);
+    let got = libc::read(input, &mut buffer[kept..]);
     if got < 0 {
-        return failed(stage, b"replay: cannot read\n");
+        return failed(stage, b"tup-replay: cannot read");
     }
     let more = io::count(got, &buffer[kept..]);
     Progress {
@@ -76,11 +108,16 @@ fn read(stage: Stage, at: usize, have: usize, buffer: &mut [u8]) -> Progress {
     }
 }
 
-fn turn(p: Progress, table: &mut [u8], buffer: &mut [u8], room: &mut [u8]) -> Progress {
-    let stage = p.stage;
-    let at = p.at;
-    let q = take(stage, at, p.have, table, buffer, room);
-    if q.status != GOING || at < q.at {
+fn turn(
+    job: Job,
+    p: Progress,
+    table: &mut [u8],
+    buffer: &mut [u8],
+    room: &mut [u8],
+    named: &mut [u8],
+) -> Progress {
+    let q = take(job, p, table, buffer, room, named);
+    if q.status != GOING || p.at < q.at {
         return q;
     }
     let after = q.stage;
@@ -92,11 +129,17 @@ fn turn(p: Progress, table: &mut [u8], buffer: &mut [u8], room: &mut [u8]) -> Pr
             status: READ,
         };
     }
-    read(after, q.at, q.have, buffer)
+    read(job.input, after, q.at, q.have, buffer)
 }
 
-// A proved loop ends, and nothing says that standard input does, so the turns are counted down from a number that no run uses up.
-fn turns(table: &mut [u8], buffer: &mut [u8], room: &mut [u8]) -> Progress {
+// A proved loop ends, and nothing says that a trace does, so the turns are counted down from a number that no run uses up.
+fn turns(
+    job: Job,
+    table: &mut [u8],
+    buffer: &mut [u8],
+    room: &mut [u8],
+    named: &mut [u8],
+) -> Progress {
     let mut p = Progress {
         stage: Stage::Start,
         at: 0,
@@ -105,14 +148,46 @@ fn turns(table: &mut [u8], buffer: &mut [u8], room: &mut [u8]) -> Progress {
     };
     let mut left = u64::MAX;
     while left > 0 {
-        p = turn(p, table, buffer, room);
+        p = turn(job, p, table, buffer, room, named);
         if p.status != GOING {
             return p;
         }
         left -= 1;
     }
     let stage = p.stage;
-    failed(stage, b"replay: too long\n")
+    refused(stage, b"tup-replay: too long\n")
+}
+
+fn has_group(stage: Stage) -> bool {
+    match stage {
+        Stage::Start => false,
+        Stage::Bad => false,
+        Stage::Runs(_) => true,
+        Stage::Cut(_) => true,
+    }
+}
+
+fn is_text(octet: u8) -> bool {
+    if octet == b'\t' || octet == b'\n' || octet == b'\r' {
+        return true;
+    }
+    b' ' <= octet && octet <= b'~'
+}
+
+// A trace in its readable form has no group where its octets should begin. Whoever feeds it by mistake is told what is missing.
+fn hint(stage: Stage, rest: &[u8]) {
+    if has_group(stage) {
+        return;
+    }
+    if rest.len() == 0 {
+        return;
+    }
+    if is_text(rest[0]) {
+        io::write_all(
+            STDERR_FILENO,
+            b"tup-replay: this is text, and a trace is octets: make them with tup-octets FILE | tup-replay\n",
+        );
+    }
 }
 
 fn last_line(p: Progress, buffer: &[u8], room: &mut [u8]) {
@@ -124,16 +199,36 @@ fn last_line(p: Progress, buffer: &[u8], room: &mut [u8]) {
     let stage = p.stage;
     let n = trace::finish(stage, &buffer[at..have], room);
     if !io::write_all(STDOUT_FILENO, &room[..n]) {
-        io::write_all(STDERR_FILENO, b"replay: cannot write\n");
+        os::fail(b"tup-replay: cannot write");
+        return;
+    }
+    hint(stage, &buffer[at..have]);
+}
+
+fn run(job: Job) {
+    let mut table = [0u8; 40968];
+    let mut buffer = [0u8; 65536];
+    let mut room = [0u8; 65536];
+    let mut named = [0u8; 65536];
+    let p = turns(job, &mut table, &mut buffer, &mut room, &mut named);
+    if p.status == READ {
+        last_line(p, &buffer, &mut room);
     }
 }
 
 fn main() {
-    let mut table = [0u8; 40968];
-    let mut buffer = [0u8; 65536];
-    let mut room = [0u8; 65536];
-    let p = turns(&mut table, &mut buffer, &mut room);
-    if p.status == READ {
-        last_line(p, &buffer, &mut room);
+    let asked = arguments::read();
+    if asked.want == arguments::HELP {
+        help::write();
+    }
+    if asked.want != arguments::REPLAY {
+        return;
+    }
+    let input = arguments::open(asked.file);
+    if input >= 0 {
+        run(Job {
+            input: input,
+            names: asked.names,
+        });
     }
 }

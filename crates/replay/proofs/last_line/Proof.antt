@@ -28,17 +28,26 @@ slice-aggregate-write-all c = let f = c .before .before .before .finish in sym (
 write-all-requires : tie.Need-write-all-requires
 write-all-requires c κs = search needs
 
-slice-aggregate-write-all-2 : tie.Need-slice-aggregate-write-all-2
-slice-aggregate-write-all-2 c = search needs
+slice-aggregate-fail : tie.Need-slice-aggregate-fail
+slice-aggregate-fail c = search needs
 
-write-all-requires-2 : tie.Need-write-all-requires-2
-write-all-requires-2 c κs = search needs
+fail-requires : tie.Need-fail-requires
+fail-requires c κs = search needs
 
 same-length : tie.Need-same-length
 same-length c = search needs
 
 returns-2 : tie.Need-returns-2
 returns-2 c = search needs
+
+part-hint-start : tie.Need-part-hint-start
+part-hint-start c = search needs
+
+part-hint-end : tie.Need-part-hint-end
+part-hint-end c = search needs
+
+hint-requires : tie.Need-hint-requires
+hint-requires c κs = search needs
 
 same-length-2 : tie.Need-same-length-2
 same-length-2 c = search needs
@@ -57,9 +66,12 @@ last-line-spec =
     slice-reshare-prefix-write-all
     slice-aggregate-write-all
     write-all-requires
-    slice-aggregate-write-all-2
-    write-all-requires-2
+    slice-aggregate-fail
+    fail-requires
     same-length
     returns-2
+    part-hint-start
+    part-hint-end
+    hint-requires
     same-length-2
     returns-3)

@@ -10,11 +10,11 @@ use Rattle.replay.proofs.take.Tie as tie
 table-octets-requires : tie.Need-table-octets-requires
 table-octets-requires c κs = search needs
 
-slice-aggregate-failed : tie.Need-slice-aggregate-failed
-slice-aggregate-failed c = search needs
+slice-aggregate-refused : tie.Need-slice-aggregate-refused
+slice-aggregate-refused c = search needs
 
-failed-requires : tie.Need-failed-requires
-failed-requires c κs = search needs
+refused-requires : tie.Need-refused-requires
+refused-requires c κs = search needs
 
 returns : tie.Need-returns
 returns c = search needs
@@ -37,20 +37,23 @@ part-feed-end c = search needs
 feed-requires : tie.Need-feed-requires
 feed-requires c κs = search needs
 
-slice-reshare-prefix-write-all : tie.Need-slice-reshare-prefix-write-all
-slice-reshare-prefix-write-all c = search needs
+add-next : tie.Need-add-next
+add-next c = search needs
 
-slice-aggregate-write-all : tie.Need-slice-aggregate-write-all
-slice-aggregate-write-all c = let f = c .before .before .before .before .before .feed in sym (length-take-le _ _ (omega (arith, f .ensures .1 .1 .1 .1, f .kept .1 .1 .1 .0)))
+slice-reshare-prefix-write : tie.Need-slice-reshare-prefix-write
+slice-reshare-prefix-write c = search needs
 
-write-all-requires : tie.Need-write-all-requires
-write-all-requires c κs = search needs
+slice-aggregate-write : tie.Need-slice-aggregate-write
+slice-aggregate-write c = let f = c .before .before .before .before .before .before .feed in sym (length-take-le _ _ (omega (arith, f .ensures .1 .1 .1 .1, f .kept .1 .1 .1 .0)))
 
-slice-aggregate-failed-2 : tie.Need-slice-aggregate-failed-2
-slice-aggregate-failed-2 c = search needs
+write-requires : tie.Need-write-requires
+write-requires c κs = search needs
 
-failed-requires-2 : tie.Need-failed-requires-2
-failed-requires-2 c κs = search needs
+slice-aggregate-failed : tie.Need-slice-aggregate-failed
+slice-aggregate-failed c = search needs
+
+failed-requires : tie.Need-failed-requires
+failed-requires c κs = search needs
 
 same-length : tie.Need-same-length
 same-length c = search needs
@@ -58,17 +61,20 @@ same-length c = search needs
 same-length-2 : tie.Need-same-length-2
 same-length-2 c = search needs
 
-returns-2 : tie.Need-returns-2
-returns-2 c = search needs
-
-add-t15 : tie.Need-add-t15
-add-t15 c = search needs
-
 same-length-3 : tie.Need-same-length-3
 same-length-3 c = search needs
 
+returns-2 : tie.Need-returns-2
+returns-2 c = search needs
+
 same-length-4 : tie.Need-same-length-4
 same-length-4 c = search needs
+
+same-length-5 : tie.Need-same-length-5
+same-length-5 c = search needs
+
+same-length-6 : tie.Need-same-length-6
+same-length-6 c = search needs
 
 returns-3 : tie.Need-returns-3
 returns-3 c = search needs
@@ -78,8 +84,8 @@ take-spec =
     tie.close
     (tie.spec
     table-octets-requires
-    slice-aggregate-failed
-    failed-requires
+    slice-aggregate-refused
+    refused-requires
     returns
     slice-relend-prefix-feed
     slice-aggregate-feed
@@ -87,15 +93,17 @@ take-spec =
     part-feed-start
     part-feed-end
     feed-requires
-    slice-reshare-prefix-write-all
-    slice-aggregate-write-all
-    write-all-requires
-    slice-aggregate-failed-2
-    failed-requires-2
+    add-next
+    slice-reshare-prefix-write
+    slice-aggregate-write
+    write-requires
+    slice-aggregate-failed
+    failed-requires
     same-length
     same-length-2
-    returns-2
-    add-t15
     same-length-3
+    returns-2
     same-length-4
+    same-length-5
+    same-length-6
     returns-3)
