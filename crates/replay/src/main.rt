@@ -1,4 +1,4 @@
-// Replays a trace from a file or standard input to standard output (document 01, "The trace and its replay"). It reads and writes in
+// Replays a trace from a file or standard input to standard output (docs/RULES.md, "The trace and its replay"). It reads and writes in
 // parts, so that a trace may be of any length. Where reading or writing fails it says so on standard error, and prints no last line.
 use libc::STDERR_FILENO;
 use libc::STDOUT_FILENO;
