@@ -11,7 +11,8 @@
  * - Slices lent in one call do not overlap.
  * - One call at a time on a table.
  * - Clocks, tones and the message transfer part are the host's. A timer that ran out is an event of kind TUP_TIMER.
- * - A record that is refused 12 is not repaired by any event, restart included: the host writes zeros there, then restarts it.
+ * - A record that is refused 12 is not repaired by any event, restart included: the host writes state TUP_AWAITING_RESET and no
+ *   flags there, so that the circuit cannot be seized, and restarts it as it does after a restart of its own (below).
  * - What is sent is named by its heading alone. The octet of an ACM is the detail of the command that sent it; category,
  *   indicators and address of an IAM are the host's.
  *
