@@ -1,33 +1,6 @@
 // The words of the named form, one table a column. Each function puts the word for a number at a place of the room and answers the
 // place behind it; where a number has no word it puts nothing, and what stands there stays.
 
-// Indications and headings for which the crate `names` has no name, since no event's outcome is written with them there.
-const IND_INCOMING_CALL: u8 = 1;
-
-const IND_ADDRESS_COMPLETE: u8 = 2;
-
-const IND_ANSWERED: u8 = 3;
-
-const IND_HUNG_UP: u8 = 4;
-
-const IND_INCOMING_CALL_AND_TRY_ELSEWHERE: u8 = 9;
-
-const SEC: u8 = 0x15;
-
-const CGC: u8 = 0x25;
-
-const NNC: u8 = 0x35;
-
-const ADI: u8 = 0x45;
-
-const SSB: u8 = 0x65;
-
-const UNN: u8 = 0x75;
-
-const LOS: u8 = 0x85;
-
-const SST: u8 = 0x95;
-
 // Where the flags end: the four together are worth one less.
 const FLAGS_END: u8 = 16;
 
@@ -108,15 +81,19 @@ pub fn flags(room: &mut [u8], at: usize, behind: usize, number: u8) -> usize {
 pub fn indication(room: &mut [u8], at: usize, behind: usize, number: u8) -> usize {
     match number {
         names::IND_NOTHING => put(room, at, b"nothing"),
-        IND_INCOMING_CALL => put(room, at, b"incoming-call"),
-        IND_ADDRESS_COMPLETE => put(room, at, b"address-complete"),
-        IND_ANSWERED => put(room, at, b"answered"),
-        IND_HUNG_UP => put(room, at, b"hung-up"),
+        names::IND_INCOMING_CALL => put(room, at, b"incoming-call"),
+        names::IND_ADDRESS_COMPLETE => put(room, at, b"address-complete"),
+        names::IND_ANSWERED => put(room, at, b"answered"),
+        names::IND_HUNG_UP => put(room, at, b"hung-up"),
         names::IND_CIRCUIT_FREED => put(room, at, b"circuit-freed"),
         names::IND_TRY_ELSEWHERE => put(room, at, b"try-elsewhere"),
         names::IND_DISCARDED => put(room, at, b"discarded"),
         names::IND_ALERT_MAINTENANCE => put(room, at, b"alert-maintenance"),
-        IND_INCOMING_CALL_AND_TRY_ELSEWHERE => put(room, at, b"incoming-call-and-try-elsewhere"),
+        names::IND_INCOMING_CALL_TRY_OWN_ELSEWHERE => put(
+            room,
+            at,
+            b"incoming-call-and-try-elsewhere",
+        ),
         names::IND_CALL_FAILED => put(room, at, b"call-failed"),
         _ => behind,
     }
@@ -144,15 +121,15 @@ pub fn state(room: &mut [u8], at: usize, behind: usize, number: u8) -> usize {
 // The headings with which a call attempt fails.
 fn failure(room: &mut [u8], at: usize, behind: usize, number: u8) -> usize {
     match number {
-        SEC => put(room, at, b"SEC"),
-        CGC => put(room, at, b"CGC"),
-        NNC => put(room, at, b"NNC"),
-        ADI => put(room, at, b"ADI"),
+        names::SEC => put(room, at, b"SEC"),
+        names::CGC => put(room, at, b"CGC"),
+        names::NNC => put(room, at, b"NNC"),
+        names::ADI => put(room, at, b"ADI"),
         names::CFL => put(room, at, b"CFL"),
-        SSB => put(room, at, b"SSB"),
-        UNN => put(room, at, b"UNN"),
-        LOS => put(room, at, b"LOS"),
-        SST => put(room, at, b"SST"),
+        names::SSB => put(room, at, b"SSB"),
+        names::UNN => put(room, at, b"UNN"),
+        names::LOS => put(room, at, b"LOS"),
+        names::SST => put(room, at, b"SST"),
         _ => behind,
     }
 }
