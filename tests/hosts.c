@@ -35,13 +35,13 @@ static const struct run {
     {NOTHING_BROKEN, "all rules kept, a quick link", 3, 0},
     {NOTHING_BROKEN, "all rules kept, a slow link", 9, 0},
     {TIMERS_WAIT_NOT, "timers that do not wait for a quiet circuit", 9, 204},
-    {MINUTE_BESIDE_REPEAT, "timer 5 beside timer 4", 9, 18},
+    {MINUTE_BESIDE_REPEAT, "timer 5 beside timer 4", 9, 208},
     {RESET_WAITS_NOT, "a reset that does not wait for a quiet circuit", 9, 265},
-    {START_WAITS_NOT, "a host that comes up and does not wait", 9, 45},
-    {START_RESTARTS_NOT, "a host that comes up and does not restart its circuits", 9, 254},
+    {START_WAITS_NOT, "a host that comes up and does not wait", 9, 88},
+    {START_RESTARTS_NOT, "a host that comes up and does not restart its circuits", 9, 179},
     {START_WITH_STORED, "a host that comes up with a stored table", 9, 254},
-    {LOSS_RESTARTS_NOT, "a link that failed, and no restart", 9, 135},
-    {LOSS_RESTARTS_SOME, "a link that failed, and a restart of what is not idle", 9, 145},
+    {LOSS_RESTARTS_NOT, "a link that failed, and no restart", 9, 43},
+    {LOSS_RESTARTS_SOME, "a link that failed, and a restart of what is not idle", 9, 226},
 };
 static const struct run *run;
 
@@ -211,7 +211,7 @@ static uint32_t all_that_was_due(uint32_t due, int quiet)
 
 static void goes_down(unsigned end)
 {
-    down[end] = 1 + draw(90);
+    down[end] = 1 + draw(chance(2) ? 3 : 90); /* back while its signals are still on their way, or when the far end has moved on */
     for (uint32_t circuit = 0; circuit < CIRCUITS; circuit++)
         trusted[circuit] = 0;
 }
@@ -247,6 +247,18 @@ static void overwritten(struct exchange *x, uint32_t circuit)
     trusted[circuit] = 0;
 }
 
+/* In the second in which the link is back nothing is on its way yet, so there is no need to wait; but waiting does no harm. */
+static void restart_all(struct exchange *x)
+{
+    if (chance(2)) {
+        exchange_link_back(x);
+        return;
+    }
+    for (uint32_t circuit = 0; circuit < CIRCUITS; circuit++)
+        if (!x->shut[circuit])
+            exchange_command(x, circuit, TUP_RESTART, 0);
+}
+
 static void link_is_back(void)
 {
     if (run->broken == LOSS_RESTARTS_NOT) {
@@ -254,8 +266,10 @@ static void link_is_back(void)
         return;
     }
     struct exchange *x = &ends[draw(2)];
+    if (down[end_of(x)] > 0)
+        return; /* it restarts everything when it comes up */
     if (run->broken != LOSS_RESTARTS_SOME) {
-        exchange_link_back(x);
+        restart_all(x);
         return;
     }
     for (uint32_t circuit = 0; circuit < CIRCUITS; circuit++)
@@ -314,7 +328,7 @@ static void one_end(unsigned end)
         reset(x, draw(CIRCUITS));
     if (run->broken == NOTHING_BROKEN && chance(1000) && down[end] == 0)
         overwritten(x, draw(CIRCUITS));
-    if (chance(3000) && down[end] == 0)
+    if (chance(1000) && down[end] == 0)
         goes_down(end);
 }
 
