@@ -1,6 +1,7 @@
 // The named form of a replay's lines, made from the numbered form. Each octet is copied as it comes, and where a number ends, the word
 // for it is put over its digits; a number that has no word stays as it is.
 use super::vocabulary;
+use super::vocabulary::Word;
 use libc::STDOUT_FILENO;
 ghost use Prim.Native.Nat.{_≤_};
 ghost use lib.ListN.{length};
@@ -78,23 +79,47 @@ fn copy(room: &mut [u8], at: usize, octet: u8) -> usize {
     at + 1
 }
 
-// Puts the word for the column's number over its digits, and answers the place behind it.
-fn word(p: Place, room: &mut [u8]) -> usize {
-    let behind = p.at;
-    if NO_NUMBER <= p.number {
-        return behind;
-    }
-    let start = p.start;
-    let number = p.number as u8;
-    let column = p.column;
+fn word_for(column: u8, number: u8) -> Word {
     match column {
-        REFUSAL => vocabulary::refusal(room, start, behind, number),
-        STATE => vocabulary::state(room, start, behind, number),
-        FLAGS => vocabulary::flags(room, start, behind, number),
-        INDICATION => vocabulary::indication(room, start, behind, number),
-        HEADINGS => vocabulary::heading(room, start, behind, number),
-        _ => behind,
+        REFUSAL => vocabulary::refusal(number),
+        STATE => vocabulary::state(number),
+        FLAGS => vocabulary::flags(number),
+        INDICATION => vocabulary::indication(number),
+        HEADINGS => vocabulary::heading(number),
+        _ => vocabulary::empty(),
     }
+}
+
+fn put(room: &mut [u8], at: usize, w: Word) -> usize {
+    let octets = w.octets;
+    let n = w.length;
+    if room.len() < at {
+        return at;
+    }
+    if room.len() - at < n {
+        return at;
+    }
+    if vocabulary::OCTETS < n {
+        return at;
+    }
+    let mut i = 0;
+    while i < n {
+        room[at + i] = octets[i];
+        i += 1;
+    }
+    at + i
+}
+
+// Puts the word for the column's number over its digits, and answers the place behind it.
+fn over(p: Place, room: &mut [u8]) -> usize {
+    if NO_NUMBER <= p.number {
+        return p.at;
+    }
+    let w = word_for(p.column, p.number as u8);
+    if w.length == 0 {
+        return p.at;
+    }
+    put(room, p.start, w)
 }
 
 // The column behind an octet that ends a number: a comma stands between two headings.
@@ -113,7 +138,7 @@ fn column_behind(column: u8, octet: u8) -> u8 {
 }
 
 fn ended(p: Place, octet: u8, room: &mut [u8]) -> Place {
-    let behind = word(p, room);
+    let behind = over(p, room);
     let next = copy(room, behind, octet);
     Place {
         column: column_behind(p.column, octet),
