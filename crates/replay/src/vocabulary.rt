@@ -1,6 +1,6 @@
-// The words of the named form, for the paper's numbers of them. A number that has no word gets an empty one.
+// The words of the named form, by the paper's numbers. A number that has no word gets an empty one.
 
-// A word is the first of its octets, as many as its length says.
+// A word is the first of its octets, as many as its length says. The longest is that of the four flags together, 45 octets.
 pub const OCTETS: usize = 48;
 
 pub struct Word {
@@ -8,7 +8,7 @@ pub struct Word {
     pub length: usize,
 }
 
-// Indications and headings for which the crate `names` has no name, since no event's outcome is written with them there.
+// The indications and headings that the crate `names` leaves out.
 const IND_INCOMING_CALL: u8 = 1;
 
 const IND_ADDRESS_COMPLETE: u8 = 2;
@@ -35,7 +35,7 @@ const LOS: u8 = 0x85;
 
 const SST: u8 = 0x95;
 
-// Where the flags end: the four together are worth one less.
+// One more than the four flags together are worth.
 const FLAGS_END: u8 = 16;
 
 pub fn empty() -> Word {
@@ -110,7 +110,7 @@ pub fn state(number: u8) -> Word {
     }
 }
 
-// Flags so far and, where one more is set, its word behind theirs.
+// The word of the flags so far, and behind it that of one more, where it is set.
 fn flag(w: Word, set: bool, text: &[u8]) -> Word {
     if !set {
         return w;

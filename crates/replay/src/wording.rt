@@ -6,7 +6,7 @@ use libc::STDOUT_FILENO;
 ghost use Prim.Native.Nat.{_≤_};
 ghost use lib.ListN.{length};
 
-// The columns of an event's line in which words stand; before them are the ordinal and the circuit, which are numbers in both forms.
+// The columns of an event's line, counted from 0. The ordinal and the circuit behind it are numbers in both forms.
 const ORDINAL: u8 = 0;
 
 const REFUSAL: u8 = 2;
@@ -19,15 +19,15 @@ const INDICATION: u8 = 5;
 
 const HEADINGS: u8 = 6;
 
-// The lines that begin with a letter have no columns, and are the same in both forms.
+// A line that begins with a letter has no columns, and is the same in both forms.
 const NO_COLUMN: u8 = 7;
 
-// More than a digit of either kind, and more than an octet's number: there is none.
+// Larger than any digit, and than any number of an octet: there is none.
 const NO_DIGIT: u16 = 16;
 
 const NO_NUMBER: u16 = 256;
 
-// A line of either form has fewer octets than this. One is begun only where the room has so many left.
+// A line has fewer octets than this in either form. One is begun only where the room has as many left.
 const LINE: usize = 256;
 
 // Where the translation stands: the column and the number in it so far, and the places of the room at which the column starts and
@@ -161,7 +161,7 @@ fn step(p: Place, octet: u8, room: &mut [u8]) -> Place {
     }
 }
 
-// Whether a line would begin here for which the room may be too short.
+// Whether a line begins here that the room may be too short for.
 fn is_full(p: Place, octets: usize) -> bool {
     let begins = p.column == ORDINAL && p.start == p.at;
     begins && (octets < p.at || octets - p.at < LINE)
@@ -188,7 +188,7 @@ fn named(lines: &[u8], room: &mut [u8]) -> Part
     }
 }
 
-// Writes the named form of whole lines to standard output, the room's fill at a time, and answers whether that went well.
+// Writes the named form of whole lines to standard output, as much at a time as the room holds, and answers whether that went well.
 pub fn write(lines: &[u8], room: &mut [u8]) -> bool {
     let mut at = 0;
     while at < lines.len() {
