@@ -188,8 +188,7 @@ fn named(lines: &[u8], room: &mut [u8]) -> Part
     }
 }
 
-// Writes the named form of whole lines to standard output, as much at a time as the room holds, and answers whether that went well.
-pub fn write(lines: &[u8], room: &mut [u8]) -> bool {
+fn write_by(lines: &[u8], room: &mut [u8]) -> bool {
     let mut at = 0;
     while at < lines.len() {
         let part = named(&lines[at..], room);
@@ -206,4 +205,10 @@ pub fn write(lines: &[u8], room: &mut [u8]) -> bool {
         at += part.taken;
     }
     true
+}
+
+// Writes the named form of whole lines to standard output, much at a time, and answers whether that went well.
+pub fn write(lines: &[u8]) -> bool {
+    let mut room = io::large_buffer();
+    write_by(lines, &mut room)
 }
