@@ -51,22 +51,15 @@ fn failed(stage: Stage, what: &[u8]) -> Progress {
 }
 
 // Writes whole lines in the form that was asked for.
-fn write(job: Job, lines: &[u8], named: &mut [u8]) -> bool {
-    if job.names {
-        return wording::write(lines, named);
+fn write(names: bool, lines: &[u8]) -> bool {
+    if names {
+        return wording::write(lines);
     }
     io::write_all(STDOUT_FILENO, lines)
 }
 
 // Takes what can be taken of the octets that are there, and writes the lines.
-fn take(
-    job: Job,
-    p: Progress,
-    table: &mut [u8],
-    buffer: &[u8],
-    room: &mut [u8],
-    named: &mut [u8],
-) -> Progress {
+fn take(names: bool, p: Progress, table: &mut [u8], buffer: &[u8], room: &mut [u8]) -> Progress {
     let stage = p.stage;
     let at = p.at;
     let have = p.have;
@@ -77,7 +70,7 @@ fn take(
     let fed = trace::feed(stage, &mut table[..octets], &buffer[at..have], room);
     let next = at + fed.taken;
     let written = fed.written;
-    if !write(job, &room[..written], named) {
+    if !write(names, &room[..written]) {
         return failed(stage, b"tup-replay: cannot write");
     }
     let after = fed.stage;
@@ -108,15 +101,8 @@ fn read(input: i32, stage: Stage, at: usize, have: usize, buffer: &mut [u8]) -> 
     }
 }
 
-fn turn(
-    job: Job,
-    p: Progress,
-    table: &mut [u8],
-    buffer: &mut [u8],
-    room: &mut [u8],
-    named: &mut [u8],
-) -> Progress {
-    let q = take(job, p, table, buffer, room, named);
+fn turn(job: Job, p: Progress, table: &mut [u8], buffer: &mut [u8], room: &mut [u8]) -> Progress {
+    let q = take(job.names, p, table, buffer, room);
     if q.status != GOING || p.at < q.at {
         return q;
     }
@@ -133,13 +119,7 @@ fn turn(
 }
 
 // A proved loop ends, and nothing says that a trace does, so the turns are counted down from a number that no run uses up.
-fn turns(
-    job: Job,
-    table: &mut [u8],
-    buffer: &mut [u8],
-    room: &mut [u8],
-    named: &mut [u8],
-) -> Progress {
+fn turns(job: Job, table: &mut [u8], buffer: &mut [u8], room: &mut [u8]) -> Progress {
     let mut p = Progress {
         stage: Stage::Start,
         at: 0,
@@ -148,7 +128,7 @@ fn turns(
     };
     let mut left = u64::MAX;
     while left > 0 {
-        p = turn(job, p, table, buffer, room, named);
+        p = turn(job, p, table, buffer, room);
         if p.status != GOING {
             return p;
         }
@@ -209,8 +189,7 @@ fn run(job: Job) {
     let mut table = [0u8; 40968];
     let mut buffer = [0u8; 65536];
     let mut room = [0u8; 65536];
-    let mut named = [0u8; 65536];
-    let p = turns(job, &mut table, &mut buffer, &mut room, &mut named);
+    let p = turns(job, &mut table, &mut buffer, &mut room);
     if p.status == READ {
         last_line(p, &buffer, &mut room);
     }

@@ -1,154 +1,160 @@
-// The words of the named form, one table a column. Each function puts the word for a number at a place of the room and answers the
-// place behind it; where a number has no word it puts nothing, and what stands there stays.
+// The words of the named form, by the numbers of docs/RULES.md. A number that has no word gets an empty one.
 
-// Where the flags end: the four together are worth one less.
+// A word is the first of its octets, as many as its length says. The longest is that of the four flags together, 45 octets.
+pub const OCTETS: usize = 48;
+
+pub struct Word {
+    pub octets: [u8; 48],
+    pub length: usize,
+}
+
+// One more than the four flags together are worth.
 const FLAGS_END: u8 = 16;
 
-// Puts a word at a place of the room, if there is room for it.
-fn put(room: &mut [u8], at: usize, word: &[u8]) -> usize {
-    if room.len() < at {
-        return at;
+pub fn empty() -> Word {
+    Word {
+        octets: [0; 48],
+        length: 0,
     }
-    if room.len() - at < word.len() {
-        return at;
+}
+
+// A word with more behind it, where that fits.
+fn longer(w: Word, text: &[u8]) -> Word {
+    let mut octets = w.octets;
+    let start = w.length;
+    if OCTETS < start {
+        return w;
+    }
+    if OCTETS - start < text.len() {
+        return w;
     }
     let mut i = 0;
-    while i < word.len() {
-        room[at + i] = word[i];
+    while i < text.len() {
+        octets[start + i] = text[i];
         i += 1;
     }
-    at + i
+    Word {
+        octets: octets,
+        length: start + i,
+    }
 }
 
-pub fn refusal(room: &mut [u8], at: usize, behind: usize, number: u8) -> usize {
+fn spelled(text: &[u8]) -> Word {
+    longer(empty(), text)
+}
+
+pub fn refusal(number: u8) -> Word {
     match number {
-        names::ACCEPTED => put(room, at, b"accepted"),
-        names::NO_SUCH_GROUP => put(room, at, b"no-such-group"),
-        names::NO_SUCH_CIRCUIT => put(room, at, b"no-such-circuit"),
-        names::NO_SUCH_EVENT => put(room, at, b"no-such-event"),
-        names::FAR_BLOCKED => put(room, at, b"far-blocked"),
-        names::COMMAND_NOT_ALLOWED => put(room, at, b"command-not-allowed"),
-        names::TIMER_NOT_RUNNING => put(room, at, b"timer-not-running"),
-        names::WRONG_LENGTH => put(room, at, b"wrong-length"),
-        names::WRONG_LABEL => put(room, at, b"wrong-label"),
-        names::NO_SUCH_HEADING => put(room, at, b"no-such-heading"),
-        names::WRONG_ADDRESS => put(room, at, b"wrong-address"),
-        names::OUTPUT_TOO_SHORT => put(room, at, b"output-too-short"),
-        names::BAD_RECORD => put(room, at, b"bad-record"),
-        names::COUNTER_FULL => put(room, at, b"counter-full"),
-        names::NO_CIRCUIT => put(room, at, b"no-circuit"),
-        _ => behind,
+        names::ACCEPTED => spelled(b"accepted"),
+        names::NO_SUCH_GROUP => spelled(b"no-such-group"),
+        names::NO_SUCH_CIRCUIT => spelled(b"no-such-circuit"),
+        names::NO_SUCH_EVENT => spelled(b"no-such-event"),
+        names::FAR_BLOCKED => spelled(b"far-blocked"),
+        names::COMMAND_NOT_ALLOWED => spelled(b"command-not-allowed"),
+        names::TIMER_NOT_RUNNING => spelled(b"timer-not-running"),
+        names::WRONG_LENGTH => spelled(b"wrong-length"),
+        names::WRONG_LABEL => spelled(b"wrong-label"),
+        names::NO_SUCH_HEADING => spelled(b"no-such-heading"),
+        names::WRONG_ADDRESS => spelled(b"wrong-address"),
+        names::OUTPUT_TOO_SHORT => spelled(b"output-too-short"),
+        names::BAD_RECORD => spelled(b"bad-record"),
+        names::COUNTER_FULL => spelled(b"counter-full"),
+        names::NO_CIRCUIT => spelled(b"no-circuit"),
+        _ => empty(),
     }
 }
 
-// A flag's word where the flag is set, behind a comma where another word stands before it.
-fn flag(room: &mut [u8], start: usize, at: usize, set: bool, word: &[u8]) -> usize {
+pub fn state(number: u8) -> Word {
+    match number {
+        names::IDLE => spelled(b"idle"),
+        names::OUT_SEIZED => spelled(b"outgoing-seized"),
+        names::OUT_PROCEEDING => spelled(b"outgoing-proceeding"),
+        names::OUT_ANSWERED => spelled(b"outgoing-answered"),
+        names::OUT_HUNG_UP => spelled(b"outgoing-hung-up"),
+        names::AWAITING_RELEASE_GUARD => spelled(b"awaiting-release-guard"),
+        names::IN_SEIZED => spelled(b"incoming-seized"),
+        names::IN_PROCEEDING => spelled(b"incoming-proceeding"),
+        names::IN_SUBSCRIBER_FREE => spelled(b"incoming-subscriber-free"),
+        names::IN_ANSWERED => spelled(b"incoming-answered"),
+        names::IN_HUNG_UP => spelled(b"incoming-hung-up"),
+        names::IN_FAILED => spelled(b"incoming-failed"),
+        names::AWAITING_RESET => spelled(b"awaiting-reset"),
+        _ => empty(),
+    }
+}
+
+// The word of the flags so far, and behind it that of one more, where it is set.
+fn flag(w: Word, set: bool, text: &[u8]) -> Word {
     if !set {
-        return at;
+        return w;
     }
-    if start == at {
-        return put(room, at, word);
+    if w.length == 0 {
+        return longer(w, text);
     }
-    let next = put(room, at, b",");
-    put(room, next, word)
+    longer(longer(w, b","), text)
 }
 
-pub fn flags(room: &mut [u8], at: usize, behind: usize, number: u8) -> usize {
+pub fn flags(number: u8) -> Word {
     if FLAGS_END <= number {
-        return behind;
+        return empty();
     }
     if number == 0 {
-        return put(room, at, b"-");
+        return spelled(b"-");
     }
-    let next = flag(room, at, at, number & names::OWN_BLOCK != 0, b"own-block");
-    let next = flag(room, at, next, number & names::FAR_BLOCK != 0, b"far-block");
-    let next = flag(
-        room,
-        at,
-        next,
-        number & names::AWAITING_BLA != 0,
-        b"awaiting-BLA",
-    );
-    flag(
-        room,
-        at,
-        next,
-        number & names::AWAITING_UBA != 0,
-        b"awaiting-UBA",
-    )
+    let w = flag(empty(), number & names::OWN_BLOCK != 0, b"own-block");
+    let w = flag(w, number & names::FAR_BLOCK != 0, b"far-block");
+    let w = flag(w, number & names::AWAITING_BLA != 0, b"awaiting-BLA");
+    flag(w, number & names::AWAITING_UBA != 0, b"awaiting-UBA")
 }
 
-pub fn indication(room: &mut [u8], at: usize, behind: usize, number: u8) -> usize {
+pub fn indication(number: u8) -> Word {
     match number {
-        names::IND_NOTHING => put(room, at, b"nothing"),
-        names::IND_INCOMING_CALL => put(room, at, b"incoming-call"),
-        names::IND_ADDRESS_COMPLETE => put(room, at, b"address-complete"),
-        names::IND_ANSWERED => put(room, at, b"answered"),
-        names::IND_HUNG_UP => put(room, at, b"hung-up"),
-        names::IND_CIRCUIT_FREED => put(room, at, b"circuit-freed"),
-        names::IND_TRY_ELSEWHERE => put(room, at, b"try-elsewhere"),
-        names::IND_DISCARDED => put(room, at, b"discarded"),
-        names::IND_ALERT_MAINTENANCE => put(room, at, b"alert-maintenance"),
-        names::IND_INCOMING_CALL_TRY_OWN_ELSEWHERE => put(
-            room,
-            at,
-            b"incoming-call-and-try-elsewhere",
-        ),
-        names::IND_CALL_FAILED => put(room, at, b"call-failed"),
-        _ => behind,
-    }
-}
-
-pub fn state(room: &mut [u8], at: usize, behind: usize, number: u8) -> usize {
-    match number {
-        names::IDLE => put(room, at, b"idle"),
-        names::OUT_SEIZED => put(room, at, b"outgoing-seized"),
-        names::OUT_PROCEEDING => put(room, at, b"outgoing-proceeding"),
-        names::OUT_ANSWERED => put(room, at, b"outgoing-answered"),
-        names::OUT_HUNG_UP => put(room, at, b"outgoing-hung-up"),
-        names::AWAITING_RELEASE_GUARD => put(room, at, b"awaiting-release-guard"),
-        names::IN_SEIZED => put(room, at, b"incoming-seized"),
-        names::IN_PROCEEDING => put(room, at, b"incoming-proceeding"),
-        names::IN_SUBSCRIBER_FREE => put(room, at, b"incoming-subscriber-free"),
-        names::IN_ANSWERED => put(room, at, b"incoming-answered"),
-        names::IN_HUNG_UP => put(room, at, b"incoming-hung-up"),
-        names::IN_FAILED => put(room, at, b"incoming-failed"),
-        names::AWAITING_RESET => put(room, at, b"awaiting-reset"),
-        _ => behind,
+        names::IND_NOTHING => spelled(b"nothing"),
+        names::IND_INCOMING_CALL => spelled(b"incoming-call"),
+        names::IND_ADDRESS_COMPLETE => spelled(b"address-complete"),
+        names::IND_ANSWERED => spelled(b"answered"),
+        names::IND_HUNG_UP => spelled(b"hung-up"),
+        names::IND_CIRCUIT_FREED => spelled(b"circuit-freed"),
+        names::IND_TRY_ELSEWHERE => spelled(b"try-elsewhere"),
+        names::IND_DISCARDED => spelled(b"discarded"),
+        names::IND_ALERT_MAINTENANCE => spelled(b"alert-maintenance"),
+        names::IND_INCOMING_CALL_TRY_OWN_ELSEWHERE => spelled(b"incoming-call-and-try-elsewhere"),
+        names::IND_CALL_FAILED => spelled(b"call-failed"),
+        _ => empty(),
     }
 }
 
 // The headings with which a call attempt fails.
-fn failure(room: &mut [u8], at: usize, behind: usize, number: u8) -> usize {
+fn failure(number: u8) -> Word {
     match number {
-        names::SEC => put(room, at, b"SEC"),
-        names::CGC => put(room, at, b"CGC"),
-        names::NNC => put(room, at, b"NNC"),
-        names::ADI => put(room, at, b"ADI"),
-        names::CFL => put(room, at, b"CFL"),
-        names::SSB => put(room, at, b"SSB"),
-        names::UNN => put(room, at, b"UNN"),
-        names::LOS => put(room, at, b"LOS"),
-        names::SST => put(room, at, b"SST"),
-        _ => behind,
+        names::SEC => spelled(b"SEC"),
+        names::CGC => spelled(b"CGC"),
+        names::NNC => spelled(b"NNC"),
+        names::ADI => spelled(b"ADI"),
+        names::CFL => spelled(b"CFL"),
+        names::SSB => spelled(b"SSB"),
+        names::UNN => spelled(b"UNN"),
+        names::LOS => spelled(b"LOS"),
+        names::SST => spelled(b"SST"),
+        _ => empty(),
     }
 }
 
-pub fn heading(room: &mut [u8], at: usize, behind: usize, number: u8) -> usize {
+pub fn heading(number: u8) -> Word {
     match number {
-        names::IAM => put(room, at, b"IAM"),
-        names::ACM => put(room, at, b"ACM"),
-        names::ANC => put(room, at, b"ANC"),
-        names::ANN => put(room, at, b"ANN"),
-        names::CBK => put(room, at, b"CBK"),
-        names::CLF => put(room, at, b"CLF"),
-        names::RAN => put(room, at, b"RAN"),
-        names::RLG => put(room, at, b"RLG"),
-        names::BLO => put(room, at, b"BLO"),
-        names::BLA => put(room, at, b"BLA"),
-        names::UBL => put(room, at, b"UBL"),
-        names::UBA => put(room, at, b"UBA"),
-        names::RSC => put(room, at, b"RSC"),
-        _ => failure(room, at, behind, number),
+        names::IAM => spelled(b"IAM"),
+        names::ACM => spelled(b"ACM"),
+        names::ANC => spelled(b"ANC"),
+        names::ANN => spelled(b"ANN"),
+        names::CBK => spelled(b"CBK"),
+        names::CLF => spelled(b"CLF"),
+        names::RAN => spelled(b"RAN"),
+        names::RLG => spelled(b"RLG"),
+        names::BLO => spelled(b"BLO"),
+        names::BLA => spelled(b"BLA"),
+        names::UBL => spelled(b"UBL"),
+        names::UBA => spelled(b"UBA"),
+        names::RSC => spelled(b"RSC"),
+        _ => failure(number),
     }
 }

@@ -1,11 +1,12 @@
 // The named form of a replay's lines, made from the numbered form. Each octet is copied as it comes, and where a number ends, the word
 // for it is put over its digits; a number that has no word stays as it is.
 use super::vocabulary;
+use super::vocabulary::Word;
 use libc::STDOUT_FILENO;
 ghost use Prim.Native.Nat.{_≤_};
 ghost use lib.ListN.{length};
 
-// The columns of an event's line in which words stand; before them are the ordinal and the circuit, which are numbers in both forms.
+// The columns of an event's line, counted from 0. The ordinal and the circuit behind it are numbers in both forms.
 const ORDINAL: u8 = 0;
 
 const REFUSAL: u8 = 2;
@@ -18,15 +19,15 @@ const INDICATION: u8 = 5;
 
 const HEADINGS: u8 = 6;
 
-// The lines that begin with a letter have no columns, and are the same in both forms.
+// A line that begins with a letter has no columns, and is the same in both forms.
 const NO_COLUMN: u8 = 7;
 
-// More than a digit of either kind, and more than an octet's number: there is none.
+// Larger than any digit, and than any number of an octet: there is none.
 const NO_DIGIT: u16 = 16;
 
 const NO_NUMBER: u16 = 256;
 
-// A line of either form has fewer octets than this. One is begun only where the room has so many left.
+// A line has fewer octets than this in either form. One is begun only where the room has as many left.
 const LINE: usize = 256;
 
 // Where the translation stands: the column and the number in it so far, and the places of the room at which the column starts and
@@ -78,23 +79,47 @@ fn copy(room: &mut [u8], at: usize, octet: u8) -> usize {
     at + 1
 }
 
-// Puts the word for the column's number over its digits, and answers the place behind it.
-fn word(p: Place, room: &mut [u8]) -> usize {
-    let behind = p.at;
-    if NO_NUMBER <= p.number {
-        return behind;
-    }
-    let start = p.start;
-    let number = p.number as u8;
-    let column = p.column;
+fn word_for(column: u8, number: u8) -> Word {
     match column {
-        REFUSAL => vocabulary::refusal(room, start, behind, number),
-        STATE => vocabulary::state(room, start, behind, number),
-        FLAGS => vocabulary::flags(room, start, behind, number),
-        INDICATION => vocabulary::indication(room, start, behind, number),
-        HEADINGS => vocabulary::heading(room, start, behind, number),
-        _ => behind,
+        REFUSAL => vocabulary::refusal(number),
+        STATE => vocabulary::state(number),
+        FLAGS => vocabulary::flags(number),
+        INDICATION => vocabulary::indication(number),
+        HEADINGS => vocabulary::heading(number),
+        _ => vocabulary::empty(),
     }
+}
+
+fn put(room: &mut [u8], at: usize, w: Word) -> usize {
+    let octets = w.octets;
+    let n = w.length;
+    if room.len() < at {
+        return at;
+    }
+    if room.len() - at < n {
+        return at;
+    }
+    if vocabulary::OCTETS < n {
+        return at;
+    }
+    let mut i = 0;
+    while i < n {
+        room[at + i] = octets[i];
+        i += 1;
+    }
+    at + i
+}
+
+// Puts the word for the column's number over its digits, and answers the place behind it.
+fn over(p: Place, room: &mut [u8]) -> usize {
+    if NO_NUMBER <= p.number {
+        return p.at;
+    }
+    let w = word_for(p.column, p.number as u8);
+    if w.length == 0 {
+        return p.at;
+    }
+    put(room, p.start, w)
 }
 
 // The column behind an octet that ends a number: a comma stands between two headings.
@@ -113,7 +138,7 @@ fn column_behind(column: u8, octet: u8) -> u8 {
 }
 
 fn ended(p: Place, octet: u8, room: &mut [u8]) -> Place {
-    let behind = word(p, room);
+    let behind = over(p, room);
     let next = copy(room, behind, octet);
     Place {
         column: column_behind(p.column, octet),
@@ -136,7 +161,7 @@ fn step(p: Place, octet: u8, room: &mut [u8]) -> Place {
     }
 }
 
-// Whether a line would begin here for which the room may be too short.
+// Whether a line begins here that the room may be too short for.
 fn is_full(p: Place, octets: usize) -> bool {
     let begins = p.column == ORDINAL && p.start == p.at;
     begins && (octets < p.at || octets - p.at < LINE)
@@ -163,8 +188,7 @@ fn named(lines: &[u8], room: &mut [u8]) -> Part
     }
 }
 
-// Writes the named form of whole lines to standard output, the room's fill at a time, and answers whether that went well.
-pub fn write(lines: &[u8], room: &mut [u8]) -> bool {
+fn write_by(lines: &[u8], room: &mut [u8]) -> bool {
     let mut at = 0;
     while at < lines.len() {
         let part = named(&lines[at..], room);
@@ -181,4 +205,10 @@ pub fn write(lines: &[u8], room: &mut [u8]) -> bool {
         at += part.taken;
     }
     true
+}
+
+// Writes the named form of whole lines to standard output, much at a time, and answers whether that went well.
+pub fn write(lines: &[u8]) -> bool {
+    let mut room = io::large_buffer();
+    write_by(lines, &mut room)
 }

@@ -7,13 +7,13 @@ use Rattle.replay.proofs.turns.Statement.{statement}
 use Rattle.replay.proofs.turns.Tie as tie
 
 abbrev Inv-loop : tie.InvT-loop
-Inv-loop job table₀ buffer₀ room₀ named₀ p₀ left₀ t9 table buffer room named p left = (length table ≡ length table₀) × (length buffer ≡ length buffer₀) × (length room ≡ length room₀) × (length named ≡ length named₀)
+Inv-loop job table₀ buffer₀ room₀ p₀ left₀ t8 table buffer room p left = (length table ≡ length table₀) × (length buffer ≡ length buffer₀) × (length room ≡ length room₀)
 
 abbrev μ-loop : tie.MeasureT-loop
-μ-loop job table₀ buffer₀ room₀ named₀ p₀ left₀ t9 table buffer room named p left = left
+μ-loop job table₀ buffer₀ room₀ p₀ left₀ t8 table buffer room p left = left
 
 loop-holds : tie.Need-loop-holds Inv-loop μ-loop
-loop-holds c = (refl, refl, refl, refl)
+loop-holds c = (refl, refl, refl)
 
 turn-requires : tie.Need-turn-requires Inv-loop μ-loop
 turn-requires c κs = search needs
@@ -26,9 +26,6 @@ same-length-2 c = search needs
 
 same-length-3 : tie.Need-same-length-3 Inv-loop μ-loop
 same-length-3 c = search needs
-
-same-length-4 : tie.Need-same-length-4 Inv-loop μ-loop
-same-length-4 c = search needs
 
 returns : tie.Need-returns Inv-loop μ-loop
 returns c = search needs
@@ -48,17 +45,14 @@ slice-aggregate-refused c = search needs
 refused-requires : tie.Need-refused-requires Inv-loop μ-loop
 refused-requires c κs = search needs
 
+same-length-4 : tie.Need-same-length-4 Inv-loop μ-loop
+same-length-4 c = search needs
+
 same-length-5 : tie.Need-same-length-5 Inv-loop μ-loop
 same-length-5 c = search needs
 
 same-length-6 : tie.Need-same-length-6 Inv-loop μ-loop
 same-length-6 c = search needs
-
-same-length-7 : tie.Need-same-length-7 Inv-loop μ-loop
-same-length-7 c = search needs
-
-same-length-8 : tie.Need-same-length-8 Inv-loop μ-loop
-same-length-8 c = search needs
 
 returns-2 : tie.Need-returns-2 Inv-loop μ-loop
 returns-2 c = search needs
@@ -74,15 +68,13 @@ turns-spec =
     same-length
     same-length-2
     same-length-3
-    same-length-4
     returns
     sub-left
     loop-less
     loop-again
     slice-aggregate-refused
     refused-requires
+    same-length-4
     same-length-5
     same-length-6
-    same-length-7
-    same-length-8
     returns-2)

@@ -1,17 +1,17 @@
--- `replay::vocabulary::put` is safe and ends. The measure is what is left of the word.
+-- `replay::wording::put` is safe and ends. The measure is what is left of the word.
 -- Assumes nothing.
 use borrow.Author.Needs.{needs}
 use lib.ListN.{length, length-set}
 use mathlib.Core.Path.{_≡_, refl}
 use Prim.Native.Nat.{_-_, _≤_}
-use Rattle.replay.proofs.vocabulary.put.Statement.{statement}
-use Rattle.replay.proofs.vocabulary.put.Tie as tie
+use Rattle.replay.proofs.wording.put.Statement.{statement}
+use Rattle.replay.proofs.wording.put.Tie as tie
 
 abbrev Inv-loop : tie.InvT-loop
-Inv-loop room₀ at word i₀ room i = (i ≤ length word) × (length room ≡ length room₀)
+Inv-loop room₀ at octets n i₀ room i = (i ≤ n) × (length room ≡ length room₀)
 
 abbrev μ-loop : tie.MeasureT-loop
-μ-loop room₀ at word i₀ room i = length word - i
+μ-loop room₀ at octets n i₀ room i = n - i
 
 returns : tie.Need-returns Inv-loop μ-loop
 returns c = search needs
@@ -22,11 +22,14 @@ sub-if2 c = search needs
 returns-2 : tie.Need-returns-2 Inv-loop μ-loop
 returns-2 c = search needs
 
+returns-3 : tie.Need-returns-3 Inv-loop μ-loop
+returns-3 c = search needs
+
 loop-holds : tie.Need-loop-holds Inv-loop μ-loop
 loop-holds c = (search needs, refl)
 
-shared-slice-read-room : tie.Need-shared-slice-read-room Inv-loop μ-loop
-shared-slice-read-room c = search needs
+array-read-room : tie.Need-array-read-room Inv-loop μ-loop
+array-read-room c = search needs
 
 add-room : tie.Need-add-room Inv-loop μ-loop
 add-room c = search needs
@@ -41,7 +44,7 @@ loop-less : tie.Need-loop-less Inv-loop μ-loop
 loop-less c = search needs
 
 loop-again : tie.Need-loop-again Inv-loop μ-loop
-loop-again c = (search needs, simp length-set (c .before .before .loop .inv .1))
+loop-again c = (search needs, simp length-set (c .before .loop .inv .1))
 
 add-result : tie.Need-add-result Inv-loop μ-loop
 add-result c = search needs
@@ -49,8 +52,8 @@ add-result c = search needs
 same-length : tie.Need-same-length Inv-loop μ-loop
 same-length c = c .before .loop .inv .1
 
-returns-3 : tie.Need-returns-3 Inv-loop μ-loop
-returns-3 c = search needs
+returns-4 : tie.Need-returns-4 Inv-loop μ-loop
+returns-4 c = search needs
 
 pub put-spec : {M : Type 1} → statement M
 put-spec =
@@ -61,8 +64,9 @@ put-spec =
     returns
     sub-if2
     returns-2
+    returns-3
     loop-holds
-    shared-slice-read-room
+    array-read-room
     add-room
     slice-write-room
     add-i
@@ -70,4 +74,4 @@ put-spec =
     loop-again
     add-result
     same-length
-    returns-3)
+    returns-4)

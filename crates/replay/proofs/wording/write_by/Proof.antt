@@ -1,12 +1,12 @@
--- `replay::wording::write` is safe and ends. The measure is what is left of the lines: each turn takes some.
+-- `replay::wording::write_by` is safe and ends. The measure is what is left of the lines: each turn takes some.
 -- Assumes nothing.
 use borrow.Author.Needs.{needs}
 use lib.ListN.{length}
 use mathlib.Core.Path.{_≡_, refl, sym}
 use lib.Seq.{length-take-le}
 use Prim.Native.Nat.{_-_, _≤_}
-use Rattle.replay.proofs.wording.write.Statement.{statement}
-use Rattle.replay.proofs.wording.write.Tie as tie
+use Rattle.replay.proofs.wording.write_by.Statement.{statement}
+use Rattle.replay.proofs.wording.write_by.Tie as tie
 
 abbrev Inv-loop : tie.InvT-loop
 Inv-loop lines room₀ at₀ room at = (at ≤ length lines) × (length room ≡ length room₀)
@@ -71,8 +71,8 @@ same-length-4 c = search needs
 returns-4 : tie.Need-returns-4 Inv-loop μ-loop
 returns-4 c = search needs
 
-pub write-spec : {M : Type 1} → statement M
-write-spec =
+pub write-by-spec : {M : Type 1} → statement M
+write-by-spec =
     tie.close
     (tie.spec
     Inv-loop
