@@ -1,4 +1,4 @@
-// The numbers of docs/RULES.md by name, as tup.h has them: states, flags, indications, refusals and headings. No functions.
+// The numbers of docs/RULES.md by name, as tup.h has them: states, flags, indications, refusals and the headings that an event sends. No functions.
 
 // A circuit's states.
 pub const IDLE: u8 = 0;
@@ -39,14 +39,6 @@ pub const AWAITING_UBA: u8 = 8;
 // Indications.
 pub const IND_NOTHING: u8 = 0;
 
-pub const IND_INCOMING_CALL: u8 = 1;
-
-pub const IND_ADDRESS_COMPLETE: u8 = 2;
-
-pub const IND_ANSWERED: u8 = 3;
-
-pub const IND_HUNG_UP: u8 = 4;
-
 pub const IND_CIRCUIT_FREED: u8 = 5;
 
 pub const IND_TRY_ELSEWHERE: u8 = 6;
@@ -54,8 +46,6 @@ pub const IND_TRY_ELSEWHERE: u8 = 6;
 pub const IND_DISCARDED: u8 = 7;
 
 pub const IND_ALERT_MAINTENANCE: u8 = 8;
-
-pub const IND_INCOMING_CALL_TRY_OWN_ELSEWHERE: u8 = 9;
 
 pub const IND_CALL_FAILED: u8 = 10;
 
@@ -119,21 +109,4 @@ pub const UBA: u8 = 0x57;
 
 pub const RSC: u8 = 0x77;
 
-// The failures.
-pub const SEC: u8 = 0x15;
-
-pub const CGC: u8 = 0x25;
-
-pub const NNC: u8 = 0x35;
-
-pub const ADI: u8 = 0x45;
-
 pub const CFL: u8 = 0x55;
-
-pub const SSB: u8 = 0x65;
-
-pub const UNN: u8 = 0x75;
-
-pub const LOS: u8 = 0x85;
-
-pub const SST: u8 = 0x95;

@@ -1,7 +1,7 @@
 // The named form of a replay's lines, made from the numbered form. Each octet is copied as it comes, and where a number ends, the word
 // for it is put over its digits; a number that has no word stays as it is.
 use super::vocabulary;
-use super::vocabulary::Word;
+use super::vocabulary::Digits;
 use libc::STDOUT_FILENO;
 ghost use Prim.Native.Nat.{_≤_};
 ghost use lib.ListN.{length};
@@ -71,55 +71,25 @@ fn grown(column: u8, number: u16, octet: u8) -> u16 {
     }
 }
 
-fn copy(room: &mut [u8], at: usize, octet: u8) -> usize {
-    if room.len() <= at {
-        return at;
-    }
-    room[at] = octet;
-    at + 1
-}
-
-fn word_for(column: u8, number: u8) -> Word {
-    match column {
-        REFUSAL => vocabulary::refusal(number),
-        STATE => vocabulary::state(number),
-        FLAGS => vocabulary::flags(number),
-        INDICATION => vocabulary::indication(number),
-        HEADINGS => vocabulary::heading(number),
-        _ => vocabulary::empty(),
-    }
-}
-
-fn put(room: &mut [u8], at: usize, w: Word) -> usize {
-    let octets = w.octets;
-    let n = w.length;
-    if room.len() < at {
-        return at;
-    }
-    if room.len() - at < n {
-        return at;
-    }
-    if vocabulary::OCTETS < n {
-        return at;
-    }
-    let mut i = 0;
-    while i < n {
-        room[at + i] = octets[i];
-        i += 1;
-    }
-    at + i
-}
-
 // Puts the word for the column's number over its digits, and answers the place behind it.
 fn over(p: Place, room: &mut [u8]) -> usize {
     if NO_NUMBER <= p.number {
         return p.at;
     }
-    let w = word_for(p.column, p.number as u8);
-    if w.length == 0 {
-        return p.at;
+    let d = Digits {
+        start: p.start,
+        behind: p.at,
+        number: p.number as u8,
+    };
+    let column = p.column;
+    match column {
+        REFUSAL => vocabulary::refusal(room, d),
+        STATE => vocabulary::state(room, d),
+        FLAGS => vocabulary::flags(room, d),
+        INDICATION => vocabulary::indication(room, d),
+        HEADINGS => vocabulary::heading(room, d),
+        _ => p.at,
     }
-    put(room, p.start, w)
 }
 
 // The column behind an octet that ends a number: a comma stands between two headings.
@@ -139,7 +109,7 @@ fn column_behind(column: u8, octet: u8) -> u8 {
 
 fn ended(p: Place, octet: u8, room: &mut [u8]) -> Place {
     let behind = over(p, room);
-    let next = copy(room, behind, octet);
+    let next = vocabulary::copy(room, behind, octet);
     Place {
         column: column_behind(p.column, octet),
         number: 0,
@@ -157,7 +127,7 @@ fn step(p: Place, octet: u8, room: &mut [u8]) -> Place {
         column: if letter { NO_COLUMN } else { p.column },
         number: grown(p.column, p.number, octet),
         start: p.start,
-        at: copy(room, p.at, octet),
+        at: vocabulary::copy(room, p.at, octet),
     }
 }
 
