@@ -2,17 +2,17 @@
 use libc::STDERR_FILENO;
 
 // A replay is asked for; the help is; or nothing can be done.
-pub const REPLAY: u8 = 0;
+pub(crate) const REPLAY: u8 = 0;
 
-pub const HELP: u8 = 1;
+pub(crate) const HELP: u8 = 1;
 
-pub const REFUSED: u8 = 2;
+pub(crate) const REFUSED: u8 = 2;
 
 // The number of the argument that names the trace where none does, and the program reads standard input.
-pub const NO_FILE: usize = 0;
+pub(crate) const NO_FILE: usize = 0;
 
 // What is wanted, whether in the named form, whether an argument said where the trace is, and which one names a file.
-pub struct Asked {
+pub(crate) struct Asked {
     pub want: u8,
     pub names: bool,
     pub told: bool,
@@ -90,7 +90,7 @@ fn argument(asked: Asked, i: usize) -> Asked {
     operand(asked, i, &word[..octets])
 }
 
-pub fn read() -> Asked {
+pub(crate) fn read() -> Asked {
     let count = os::arg_count();
     let mut a = Asked {
         want: REPLAY,
@@ -107,7 +107,7 @@ pub fn read() -> Asked {
 }
 
 // Opens the trace for reading, and answers its descriptor, or a negative number.
-pub fn open(file: usize) -> i32 {
+pub(crate) fn open(file: usize) -> i32 {
     if file == NO_FILE {
         return libc::STDIN_FILENO;
     }

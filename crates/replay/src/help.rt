@@ -1,7 +1,7 @@
 // What `--help` prints.
 use libc::STDOUT_FILENO;
 
-pub fn write() {
+pub(crate) fn write() {
     let is_written = io::write_all(
         STDOUT_FILENO,
         b"usage: tup-replay [--names] [FILE]

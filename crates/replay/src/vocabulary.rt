@@ -5,13 +5,13 @@
 const FLAGS_END: u8 = 16;
 
 // Where the digits of a number stand in the room, and its value.
-pub struct Digits {
+pub(crate) struct Digits {
     pub start: usize,
     pub behind: usize,
     pub number: u8,
 }
 
-pub fn copy(room: &mut [u8], at: usize, octet: u8) -> usize {
+pub(crate) fn copy(room: &mut [u8], at: usize, octet: u8) -> usize {
     if room.len() <= at {
         return at;
     }
@@ -51,7 +51,7 @@ fn nth(room: &mut [u8], d: Digits, text: &[u8]) -> usize {
     word_at(room, d.start, text, from)
 }
 
-pub fn refusal(room: &mut [u8], d: Digits) -> usize {
+pub(crate) fn refusal(room: &mut [u8], d: Digits) -> usize {
     nth(
         room,
         d,
@@ -59,7 +59,7 @@ pub fn refusal(room: &mut [u8], d: Digits) -> usize {
     )
 }
 
-pub fn state(room: &mut [u8], d: Digits) -> usize {
+pub(crate) fn state(room: &mut [u8], d: Digits) -> usize {
     nth(
         room,
         d,
@@ -67,7 +67,7 @@ pub fn state(room: &mut [u8], d: Digits) -> usize {
     )
 }
 
-pub fn indication(room: &mut [u8], d: Digits) -> usize {
+pub(crate) fn indication(room: &mut [u8], d: Digits) -> usize {
     nth(
         room,
         d,
@@ -87,7 +87,7 @@ fn flag(room: &mut [u8], start: usize, at: usize, set: bool, word: &[u8]) -> usi
     word_at(room, next, word, 0)
 }
 
-pub fn flags(room: &mut [u8], d: Digits) -> usize {
+pub(crate) fn flags(room: &mut [u8], d: Digits) -> usize {
     let n = d.number;
     let start = d.start;
     if FLAGS_END <= n {
@@ -115,7 +115,7 @@ pub fn flags(room: &mut [u8], d: Digits) -> usize {
 }
 
 // A heading is H0 + 16 * H1: the headings of one H0 by their H1. No heading has an H1 of 0.
-pub fn heading(room: &mut [u8], d: Digits) -> usize {
+pub(crate) fn heading(room: &mut [u8], d: Digits) -> usize {
     let by_h1 = Digits {
         start: d.start,
         behind: d.behind,

@@ -178,7 +178,7 @@ fn write_by(lines: &[u8], room: &mut [u8]) -> bool {
 }
 
 // Writes the named form of whole lines to standard output, much at a time, and answers whether that went well.
-pub fn write(lines: &[u8]) -> bool {
+pub(crate) fn write(lines: &[u8]) -> bool {
     let mut room = io::large_buffer();
     write_by(lines, &mut room)
 }
