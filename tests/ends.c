@@ -117,22 +117,10 @@ static void arrive(unsigned end, uint32_t circuit)
 static void give_command(unsigned end, uint32_t circuit)
 {
     uint32_t command = chance(30) ? TUP_RESTART : TUP_SEIZE + draw(9);
-    uint32_t detail = 0;
-    if (command == TUP_ADDRESS_COMPLETE)
-        detail = draw(8);
-    if (command == TUP_ANSWER)
-        detail = draw(2);
-    if (command == TUP_FAIL)
-        detail = headings[FAILURES_FROM + draw(HEADINGS - FAILURES_FROM)];
+    uint32_t detail = draw_detail(command);
     if ((command == TUP_RELEASE || command == TUP_FAIL) && !chance(3))
         command = TUP_SEIZE, detail = 0; /* or few calls would get far */
     event(end, circuit, TUP_COMMAND, command, detail);
-}
-
-static int same_stage(uint32_t outgoing, uint32_t incoming)
-{
-    return (outgoing == 1 && incoming == 6) || (outgoing == 2 && (incoming == 7 || incoming == 8)) ||
-           (outgoing == 3 && incoming == 9) || (outgoing == 4 && incoming == 10);
 }
 
 /* Any ranks, also above the counter, and a counter that this run does not fill. */

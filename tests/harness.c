@@ -121,6 +121,26 @@ int chance(uint32_t in)
     return draw(in) == 0;
 }
 
+uint32_t draw_detail(uint32_t command)
+{
+    switch (command) {
+    case 3:
+        return draw(8);
+    case 4:
+        return draw(2);
+    case 7:
+        return headings[FAILURES_FROM + draw(HEADINGS - FAILURES_FROM)];
+    default:
+        return 0;
+    }
+}
+
+int same_stage(uint32_t outgoing, uint32_t incoming)
+{
+    return (outgoing == 1 && incoming == 6) || (outgoing == 2 && (incoming == 7 || incoming == 8)) ||
+           (outgoing == 3 && incoming == 9) || (outgoing == 4 && incoming == 10);
+}
+
 static uint8_t *room_view(FILE *file, int protection)
 {
     uint8_t *around = mmap(NULL, 3 * (size_t)ROOM, PROT_NONE, MAP_PRIVATE | MAP_ANONYMOUS, -1, 0);

@@ -34,6 +34,12 @@ uint64_t draw64(void);
 uint32_t draw(uint32_t below);
 int chance(uint32_t in);
 
+/* A detail that the command may have. */
+uint32_t draw_detail(uint32_t command);
+
+/* Whether one end's outgoing call and the other's incoming call, by their states, are at the same stage: demand 3's pairs. */
+int same_stage(uint32_t outgoing, uint32_t incoming);
+
 /* A stretch of octets seen twice: `open` may be written, `shut` only read. Both lie between unreadable stretches. */
 enum { ROOM = 65536 };
 struct room {

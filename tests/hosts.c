@@ -133,12 +133,6 @@ static void link_fails(void)
 
 /* Demand 3, at a moment when nothing is on its way on the circuit. */
 
-static int same_stage(uint32_t outgoing, uint32_t incoming)
-{
-    return (outgoing == 1 && incoming == 6) || (outgoing == 2 && (incoming == 7 || incoming == 8)) ||
-           (outgoing == 3 && incoming == 9) || (outgoing == 4 && incoming == 10);
-}
-
 static int awaits(uint32_t state)
 {
     return state == TUP_AWAITING_RELEASE_GUARD || state == TUP_AWAITING_RESET;
@@ -293,13 +287,7 @@ static void command(struct exchange *x, uint32_t circuit)
 {
     static const uint8_t often[] = {TUP_SEIZE, TUP_SEIZE, TUP_RELEASE, TUP_ADDRESS_COMPLETE, TUP_ADDRESS_COMPLETE, TUP_ANSWER,
                                     TUP_ANSWER, TUP_CLEAR_BACK, TUP_RE_ANSWER, TUP_FAIL};
-    uint32_t command = often[draw(sizeof often)], detail = 0;
-    if (command == TUP_ADDRESS_COMPLETE)
-        detail = draw(8);
-    if (command == TUP_ANSWER)
-        detail = draw(2);
-    if (command == TUP_FAIL)
-        detail = headings[FAILURES_FROM + draw(HEADINGS - FAILURES_FROM)];
+    uint32_t command = often[draw(sizeof often)], detail = draw_detail(command);
     if (chance(12))
         exchange_block(x, circuit, (int)draw(2));
     else
