@@ -16,9 +16,10 @@
  * - What is sent is named by its heading alone. The octet of an ACM is the detail of the command that sent it; category,
  *   indicators and address of an IAM are the host's.
  *
- * What it owes for the two ends to agree. On each circuit every signal arrives, once, in the order in which they were sent. The
- * other rules speak of a quiet circuit. It is quiet at an end when that end has neither sent nor received a signal on it for longer
- * than a round trip: the longest time in which a signal crosses the link, is answered, and the answer is back.
+ * What it owes for the two ends to agree. On each circuit all signals arrive, each once, in the order in which they were sent.
+ * The other rules speak of a quiet circuit. It is quiet at an end when that end has neither sent nor received a signal on it for
+ * longer than a round trip: the longest time in which a signal crosses the link, is answered, and the answer is back, with the time
+ * in both hosts' queues.
  * - TUP_TIMER_REPEAT, TUP_TIMER_MINUTE and TUP_TIMER_BLOCK_REPEAT run out only on a quiet circuit. One that is due before waits.
  * - Where TUP_TIMER_REPEAT and TUP_TIMER_MINUTE are both due, TUP_TIMER_MINUTE runs out instead of the other.
  * - TUP_RESTART is given only on a quiet circuit, or where everything on its way on that circuit, in both directions, is gone.
