@@ -353,8 +353,8 @@ static inline uint32_t tup_timers_now(uint32_t due, int quiet)
     return (due & minute) != 0 ? due & ~repeat : due;
 }
 
-/* Whether the end with code `own` controls the circuit: at a dual seizure there it goes on and the other end gives way. The end with
-   the higher code controls the even circuits, the other one the odd ones. */
+/* Whether the end with code `own` controls the circuit: at a dual seizure there it goes on and the other end gives way. The end
+   with the higher code controls the even circuits, the other one the odd ones. */
 static inline int tup_controls(uint32_t own, uint32_t far, uint32_t circuit) { return (own > far) == (circuit % 2 == 0); }
 
 /* How many circuits a table of this length has; 0 for a length that is refused 1. */

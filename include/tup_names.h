@@ -1,5 +1,5 @@
-/* Names as text for the numbers of tup.h, as docs/RULES.md has them: states, flags, indications, refusals, headings, kinds, commands
-   and timers. A number that has no name is "?". */
+/* Names as text for the numbers of tup.h, as docs/RULES.md has them: states, flags, indications, refusals, headings, kinds,
+   commands and timers. A number that has no name is "?". */
 #ifndef TUP_NAMES_H
 #define TUP_NAMES_H
 

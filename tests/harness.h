@@ -1,5 +1,5 @@
-/* What the test programs share: a way to fail that says what differed, numbers drawn from a seed that is printed, and memory with an
-   unreadable stretch on either side, so that a step beyond what was lent ends the program. */
+/* What the test programs share: a way to fail that says what differed, numbers drawn from a seed that is printed, and memory
+   with an unreadable stretch on either side, so that a step beyond what was lent ends the program. */
 #ifndef HARNESS_H
 #define HARNESS_H
 

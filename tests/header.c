@@ -1,5 +1,6 @@
-/* The functions that tup.h and tup_names.h have of their own, against the archive: which timers run, who controls, which records are
-   bad, how many circuits a table has, the table with which a host comes up, fields as enums, names. Exhaustive where that is small. */
+/* The functions that tup.h and tup_names.h have of their own, against the archive: which timers run, who controls, which records
+   are bad, how many circuits a table has, the table with which a host comes up, fields as enums, names. Exhaustive where that is
+   small. */
 #include "harness.h"
 #include "tup_names.h"
 
@@ -151,8 +152,8 @@ static void coming_up(void)
     expect("the octets behind the table", memcmp(after, table + TUP_TABLE_OCTETS(GROUP), sizeof after) == 0, 1);
 }
 
-/* What docs/HOST.md says of codes that have changed places, at a dual seizure on circuit 0, which the end with code 2 controls: with
-   them in place that end goes on; exchanged at that end, both give way. A message read with them exchanged is refused 8. */
+/* What docs/HOST.md says of codes that have changed places, at a dual seizure on circuit 0, which the end with code 2 controls:
+   with them in place that end goes on; exchanged at that end, both give way. A message read with them exchanged is refused 8. */
 static void codes_exchanged(void)
 {
     static const uint8_t release_guard[] = {0x02, 0x40, 0x00, 0x00, 0x00, 0x17};
@@ -160,13 +161,15 @@ static void codes_exchanged(void)
     for (uint32_t exchanged = 0; exchanged < 2; exchanged++) {
         put_record(0, TUP_OUT_SEIZED, 0);
         now.number = exchanged;
-        uint64_t answer = tup_step(2 - exchanged, 1 + exchanged, table, TUP_TABLE_OCTETS(GROUP), 0, TUP_SIGNAL, TUP_IAM, 0);
+        uint32_t own = 2 - exchanged, far = 1 + exchanged;
+        uint64_t answer = tup_step(own, far, table, TUP_TABLE_OCTETS(GROUP), 0, TUP_SIGNAL, TUP_IAM, 0);
         expect("the end that controls", tup_answer_state(answer), exchanged ? TUP_IN_SEIZED : TUP_OUT_SEIZED);
-        expect("a message", tup_read(2 - exchanged, 1 + exchanged, GROUP, release_guard, sizeof release_guard, fields, sizeof fields),
+        expect("a message", tup_read(own, far, GROUP, release_guard, sizeof release_guard, fields, sizeof fields),
                exchanged ? TUP_WRONG_LABEL : TUP_ACCEPTED);
     }
     put_record(0, TUP_OUT_SEIZED, 0);
-    expect("the other end", tup_answer_state(tup_step(1, 2, table, TUP_TABLE_OCTETS(GROUP), 0, TUP_SIGNAL, TUP_IAM, 0)), TUP_IN_SEIZED);
+    uint64_t other = tup_step(1, 2, table, TUP_TABLE_OCTETS(GROUP), 0, TUP_SIGNAL, TUP_IAM, 0);
+    expect("the other end", tup_answer_state(other), TUP_IN_SEIZED);
 }
 
 /* With far block every good record stays good, as docs/HOST.md says to a host that wants circuits left out of a choice. */
@@ -203,20 +206,23 @@ static void enums_of_messages(void)
     static const uint8_t address[] = {1, 2, 3};
     for (unsigned i = 0; i < HEADINGS; i++) {
         int iam = headings[i] == TUP_IAM;
-        uint32_t written = tup_write(2, 1, GROUP, 4, headings[i], 0, 0, 0, address, iam ? sizeof address : 0, octets, sizeof octets);
+        size_t len = iam ? sizeof address : 0;
+        uint32_t written = tup_write(2, 1, GROUP, 4, headings[i], 0, 0, 0, address, len, octets, sizeof octets);
         uint32_t read = tup_read(1, 2, GROUP, octets, tup_written_length(written), fields, sizeof fields);
         expect("writing", tup_refusal_of_written(written), TUP_ACCEPTED);
         expect("reading", tup_refusal_of_read(read), TUP_ACCEPTED);
         expect("the heading", tup_heading_of_message(fields), headings[i]);
     }
-    expect("a bad heading", tup_refusal_of_written(tup_write(2, 1, GROUP, 4, 0, 0, 0, 0, address, 0, octets, 9)), TUP_NO_SUCH_HEADING);
+    uint32_t unwritten = tup_write(2, 1, GROUP, 4, 0, 0, 0, 0, address, 0, octets, sizeof octets);
+    expect("a bad heading", tup_refusal_of_written(unwritten), TUP_NO_SUCH_HEADING);
     expect("no octets", tup_refusal_of_read(tup_read(2, 1, GROUP, octets, 0, fields, sizeof fields)), TUP_WRONG_LENGTH);
     memset(table, 0, sizeof table);
     expect("a choice", tup_refusal_of_selected(tup_select(2, 1, table, TUP_TABLE_OCTETS(GROUP))), TUP_ACCEPTED);
     expect("no choice", tup_refusal_of_selected(tup_select(2, 1, table, 0)), TUP_NO_SUCH_GROUP);
 }
 
-/* Of the numbers below 300 and some above, exactly so many have a name, and no two the same. Which, the page of rules is held to. */
+/* Of the numbers below 300 and some above, exactly so many have a name, and no two the same. Which, is compared with docs/RULES.md
+   elsewhere. */
 static void names_of(const char *what, const char *(*name)(uint32_t), unsigned wanted)
 {
     const char *found[32];

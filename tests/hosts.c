@@ -1,7 +1,8 @@
 /* Two hosts made of examples/exchange.c over a link on which a signal takes its time, driven at random: calls, blocks, resets by
    maintenance, hosts that go down at any moment and come up again, a link that fails and loses what is on it, memory that is
-   overwritten, and waits through the 60th second. By the rules of docs/HOST.md the ends agree at every quiet moment. Then each rule is broken in turn, and a fixed seed
-   shows that the ends come to disagree without it. `hosts search` looks for such seeds, where a change has made others of them. */
+   overwritten, and waits through the 60th second. By the rules of docs/HOST.md the ends agree at every quiet moment. Then each rule
+   is broken in turn, and a fixed seed shows that the ends come to disagree without it. `hosts search` looks for such seeds, where a
+   change has made others of them. */
 #include "../examples/exchange.h"
 #include "harness.h"
 
@@ -13,8 +14,8 @@ enum { WAY = 256, STATES = 13 };
 /* With nothing restarted after a failure: the seconds after which calls that were torn have ended by their timers. */
 enum { SETTLED = 200 };
 
-/* What a run does other than docs/HOST.md says, if anything; how long a signal takes to cross at most, in seconds; and, where a rule
-   is broken, the seed that shows it. */
+/* What a run does other than docs/HOST.md says, if anything; how long a signal takes to cross at most, in seconds; and, where a
+   rule is broken, the seed that shows it. */
 enum broken {
     NOTHING_BROKEN,
     TIMERS_WAIT_NOT,      /* 4, 5 and 6 run out when they are due */
@@ -397,8 +398,8 @@ static void kept(const struct run *of, unsigned long seconds)
             differ("by the rules, and the ends disagree");
     }
     expect_all_seen();
-    covered("%s: %lu seconds, %lu events, agreed at %lu quiet moments; %lu signals lost, the link failed %lu times, a host came up %lu "
-            "times", run->what, seen.seconds, seen.events, seen.quiet, seen.lost, seen.failures, seen.starts);
+    covered("%s: %lu seconds, %lu events, agreed at %lu quiet moments; %lu signals lost, the link failed %lu times, a host came up "
+            "%lu times", run->what, seen.seconds, seen.events, seen.quiet, seen.lost, seen.failures, seen.starts);
     covered("  %lu resets, of which %lu waited; timer 5 ran out %lu times, with timer 4 due beside it %lu times; memory "
             "was overwritten %lu times", seen.resets, seen.waited, seen.minutes, seen.both, seen.overwritten);
 }

@@ -1,5 +1,6 @@
-// The words of the named form. A column's words stand in one text in the order of their numbers, 0 first, with a blank between two.
-// Each function puts a number's word at a place of the room and answers the place behind it; a number that has no word keeps its digits.
+// The words of the named form. A column's words stand in one text in the order of their numbers, 0 first, with a blank or a line feed
+// between two. Each function puts a number's word at a place of the room and answers the place behind it; a number that has no word
+// keeps its digits.
 
 // One more than the four flags together are worth.
 const FLAGS_END: u8 = 16;
@@ -19,12 +20,12 @@ pub(crate) fn copy(room: &mut [u8], at: usize, octet: u8) -> usize {
     at + 1
 }
 
-// The place behind so many blanks of a text; its end where it has not so many.
+// The place behind so many blanks and line feeds of a text; its end where it has not so many.
 fn behind_blanks(text: &[u8], blanks: u8) -> usize {
     let mut left = blanks;
     let mut i = 0;
     while i < text.len() && left > 0 {
-        if text[i] == b' ' {
+        if text[i] <= b' ' {
             left -= 1;
         }
         i += 1;
@@ -36,7 +37,7 @@ fn behind_blanks(text: &[u8], blanks: u8) -> usize {
 fn word_at(room: &mut [u8], at: usize, text: &[u8], from: usize) -> usize {
     let mut next = at;
     let mut i = from;
-    while i < text.len() && text[i] != b' ' {
+    while i < text.len() && b' ' < text[i] {
         next = copy(room, next, text[i]);
         i += 1;
     }
@@ -55,7 +56,21 @@ pub(crate) fn refusal(room: &mut [u8], d: Digits) -> usize {
     nth(
         room,
         d,
-        b"accepted no-such-group no-such-circuit no-such-event far-blocked command-not-allowed timer-not-running wrong-length wrong-label no-such-heading wrong-address output-too-short bad-record counter-full no-circuit",
+        b"accepted
+no-such-group
+no-such-circuit
+no-such-event
+far-blocked
+command-not-allowed
+timer-not-running
+wrong-length
+wrong-label
+no-such-heading
+wrong-address
+output-too-short
+bad-record
+counter-full
+no-circuit",
     )
 }
 
@@ -63,7 +78,19 @@ pub(crate) fn state(room: &mut [u8], d: Digits) -> usize {
     nth(
         room,
         d,
-        b"idle outgoing-seized outgoing-proceeding outgoing-answered outgoing-hung-up awaiting-release-guard incoming-seized incoming-proceeding incoming-subscriber-free incoming-answered incoming-hung-up incoming-failed awaiting-reset",
+        b"idle
+outgoing-seized
+outgoing-proceeding
+outgoing-answered
+outgoing-hung-up
+awaiting-release-guard
+incoming-seized
+incoming-proceeding
+incoming-subscriber-free
+incoming-answered
+incoming-hung-up
+incoming-failed
+awaiting-reset",
     )
 }
 
@@ -71,7 +98,17 @@ pub(crate) fn indication(room: &mut [u8], d: Digits) -> usize {
     nth(
         room,
         d,
-        b"nothing incoming-call address-complete answered hung-up circuit-freed try-elsewhere discarded alert-maintenance incoming-call-and-try-elsewhere call-failed",
+        b"nothing
+incoming-call
+address-complete
+answered
+hung-up
+circuit-freed
+try-elsewhere
+discarded
+alert-maintenance
+incoming-call-and-try-elsewhere
+call-failed",
     )
 }
 
