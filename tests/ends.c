@@ -142,7 +142,7 @@ static void agree(uint32_t circuit)
         if (states[end] == TUP_AWAITING_RELEASE_GUARD || states[end] == TUP_AWAITING_RESET)
             return;
     }
-    if (!(states[0] == 0 && states[1] == 0) && !same_stage(states[0], states[1]) && !same_stage(states[1], states[0]))
+    if (!stages_agree(states[0], states[1]))
         differ("at a quiet moment the two states do not agree");
     for (unsigned end = 0; end < 2; end++)
         if (!(flags[end] & TUP_FAR_BLOCK) != !(flags[1 - end] & TUP_OWN_BLOCK))
@@ -191,8 +191,7 @@ static void expect_seen(unsigned long count, const char *what, unsigned number)
 /* A run that never saw a call, a block or a crossing would prove nothing. */
 static void expect_all_seen(void)
 {
-    static const unsigned stages[][2] = {{0, 0}, {1, 6}, {2, 7}, {2, 8}, {3, 9}, {4, 10}};
-    for (unsigned i = 0; i < 6; i++) {
+    for (unsigned i = 0; i < STAGES; i++) {
         unsigned outgoing = stages[i][0], incoming = stages[i][1];
         expect_seen(seen.apart[outgoing][incoming], "the controlling end of circuit 0 outgoing in state", outgoing);
         expect_seen(seen.apart[incoming][outgoing], "the other end outgoing in state", outgoing);

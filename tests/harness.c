@@ -135,10 +135,14 @@ uint32_t draw_detail(uint32_t command)
     }
 }
 
-int same_stage(uint32_t outgoing, uint32_t incoming)
+const uint8_t stages[STAGES][2] = {{0, 0}, {1, 6}, {2, 7}, {2, 8}, {3, 9}, {4, 10}};
+
+int stages_agree(uint32_t state, uint32_t other)
 {
-    return (outgoing == 1 && incoming == 6) || (outgoing == 2 && (incoming == 7 || incoming == 8)) ||
-           (outgoing == 3 && incoming == 9) || (outgoing == 4 && incoming == 10);
+    for (int i = 0; i < STAGES; i++)
+        if ((stages[i][0] == state && stages[i][1] == other) || (stages[i][0] == other && stages[i][1] == state))
+            return 1;
+    return 0;
 }
 
 static uint8_t *room_view(FILE *file, int protection)

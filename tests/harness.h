@@ -37,8 +37,10 @@ int chance(uint32_t in);
 /* A detail that the command may have. */
 uint32_t draw_detail(uint32_t command);
 
-/* Whether one end's outgoing call and the other's incoming call, by their states, are at the same stage: demand 3's pairs. */
-int same_stage(uint32_t outgoing, uint32_t incoming);
+/* Demand 3's pairs of states, the outgoing end's first; and whether the states of two ends are one of them, either way round. */
+enum { STAGES = 6 };
+extern const uint8_t stages[STAGES][2];
+int stages_agree(uint32_t state, uint32_t other);
 
 /* A stretch of octets seen twice: `open` may be written, `shut` only read. Both lie between unreadable stretches. */
 enum { ROOM = 65536 };

@@ -151,7 +151,7 @@ static void look(uint32_t circuit)
     }
     if (!trusted[circuit] || on_way[circuit] > 0 || awaits(state[0]) || awaits(state[1]))
         return;
-    if (!(state[0] == 0 && state[1] == 0) && !same_stage(state[0], state[1]) && !same_stage(state[1], state[0]))
+    if (!stages_agree(state[0], state[1]))
         disagreed = 1;
     if (far[0] != own[1] || far[1] != own[0])
         disagreed = 1;
@@ -375,8 +375,7 @@ static void expect_seen(unsigned long count, const char *what)
 /* A run that never saw a call, a loss or the 60th second would show nothing. */
 static void expect_all_seen(void)
 {
-    static const unsigned stages[][2] = {{0, 0}, {1, 6}, {2, 7}, {2, 8}, {3, 9}, {4, 10}};
-    for (unsigned i = 0; i < 6; i++) {
+    for (unsigned i = 0; i < STAGES; i++) {
         expect_seen(seen.apart[stages[i][0]][stages[i][1]], "a stage of a call");
         expect_seen(seen.apart[stages[i][1]][stages[i][0]], "a stage of a call the other way");
     }

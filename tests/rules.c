@@ -78,9 +78,8 @@ static void mark_listed(char *text, uint8_t *marks)
 
 static unsigned kind_of(const char *word)
 {
-    static const char *const words[KINDS] = {"", "signal", "command", "timer"};
     for (unsigned kind = 1; kind < KINDS; kind++)
-        if (strcmp(word, words[kind]) == 0)
+        if (strcmp(word, tup_kind_name(kind)) == 0)
             return kind;
     differ("no kind of event is called \"%s\"", word);
     return 0;
