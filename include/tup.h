@@ -39,7 +39,7 @@
    reads or writes tables itself compares it with the one that it was written for. Format 1 had two octets a record and no
    counter; 2 has the counter and the release ranks. */
 #define TUP_VERSION_MAJOR 4
-#define TUP_VERSION_MINOR 1
+#define TUP_VERSION_MINOR 2
 #define TUP_VERSION_PATCH 0
 #define TUP_VERSION (TUP_VERSION_MAJOR * 10000 + TUP_VERSION_MINOR * 100 + TUP_VERSION_PATCH)
 #define TUP_TABLE_FORMAT 2
@@ -113,7 +113,7 @@ TUP_ENUM(tup_indication) {
     TUP_IND_ANSWERED = 3,
     TUP_IND_HUNG_UP = 4,
     TUP_IND_CIRCUIT_FREED = 5,
-    TUP_IND_TRY_ELSEWHERE = 6,
+    TUP_IND_TRY_ELSEWHERE = 6, /* of our own call; the circuit may still await release-guard: it is free with indication 5 */
     TUP_IND_DISCARDED = 7, /* of the signal; not always "nothing changed": see RSC in state 5 */
     TUP_IND_ALERT_MAINTENANCE = 8,
     TUP_IND_INCOMING_CALL_TRY_OWN_ELSEWHERE = 9,

@@ -1,6 +1,7 @@
 /* Two ends over octets: both exchanges of a few circuits run by tup_step, every signal written by tup_write, carried as octets in
    two queues a circuit, and read by tup_read; hosts that do anything at any time, restarts that empty both queues, and timers.
-   At every quiet moment the two records must agree, as demand 3 asks, in states and flags. Ranks and counters have no part in it:
+   At every quiet moment the two records must agree, as demand 3 asks, in states and flags; and no nonsense may ever arrive where
+   our own call awaits address complete. Ranks and counters have no part in it:
    now and then a host sets those of its table to any numbers that leave the counter room, so that no event is refused 13. */
 #include "harness.h"
 #include "tup.h"
@@ -28,7 +29,7 @@ static const uint32_t codes[2] = {2, 1};
 static struct { unsigned end; uint32_t circuit, kind, code, detail; } now;
 static struct {
     unsigned long quiet, apart[STATES][STATES], marks[2][2], indications[11], headings[256], events, refused, lost, longest;
-    unsigned long set_anew;
+    unsigned long set_anew, in_seized;
 } seen;
 
 static void describe(void)
@@ -98,6 +99,17 @@ static void event(unsigned end, uint32_t circuit, uint32_t kind, uint32_t code, 
     send(end, circuit, tup_answer_second(answer), detail);
 }
 
+/* What makes no sense before address complete, and only exchanges of other makers send there. */
+static void expect_sense(unsigned end, uint32_t circuit, uint32_t heading)
+{
+    static const uint8_t nonsense[] = {TUP_ANC, TUP_ANN, TUP_CBK, TUP_RAN, TUP_RLG};
+    if (tup_record_state(table[end], circuit) != TUP_OUT_SEIZED)
+        return;
+    seen.in_seized++;
+    if (memchr(nonsense, (int)heading, sizeof nonsense) != NULL)
+        differ("heading %02x arrives at end %u before address complete", heading, end);
+}
+
 /* Takes the oldest octets on their way to this end, reads them, and gives the signal to the circuit that they name. */
 static void arrive(unsigned end, uint32_t circuit)
 {
@@ -111,6 +123,7 @@ static void arrive(unsigned end, uint32_t circuit)
         differ("the circuit read is %u", tup_message_circuit(fields));
     queue->first = (queue->first + 1) % QUEUE;
     queue->count--;
+    expect_sense(end, circuit, fields[TUP_MESSAGE_HEADING]);
     event(end, circuit, TUP_SIGNAL, fields[TUP_MESSAGE_HEADING], fields[TUP_MESSAGE_ACM]);
 }
 
@@ -206,6 +219,7 @@ static void expect_all_seen(void)
         expect_seen(seen.indications[i], "indication", i);
     for (unsigned i = 0; i < HEADINGS; i++)
         expect_seen(seen.headings[headings[i]], "sent, heading", headings[i]);
+    expect_seen(seen.in_seized, "arrived before address complete", 0);
     expect_seen(seen.lost, "signals lost by a restart", 0);
     expect_seen(seen.set_anew, "ranks set by a host", 0);
     covered("dual seizures yielded: %lu, signals lost by restarts: %lu, longest queue: %lu",
@@ -220,6 +234,7 @@ int main(void)
         one_event();
     covered("%lu events, %lu of them refused, %lu quiet moments, all agreed; ranks set by a host %lu times", seen.events,
             seen.refused, seen.quiet, seen.set_anew);
+    covered("%lu signals arrived before address complete, none of them nonsense", seen.in_seized);
     expect_all_seen();
     return 0;
 }

@@ -7,7 +7,7 @@
 #include <stdio.h>
 #include <string.h>
 
-#if TUP_VERSION < 40100 || TUP_VERSION_MAJOR != 4
+#if TUP_VERSION < 40200 || TUP_VERSION_MAJOR != 4
 #error "the version is compared at compile time"
 #endif
 #if TUP_TABLE_FORMAT != 2

@@ -137,11 +137,17 @@ static answer on_acknowledgement(unsigned state, unsigned flags, unsigned awaite
     return flags & awaited ? goes(state, flags & ~awaited, 0, 0, 0) : discarded(state, flags);
 }
 
+/* An answer, clear-back, re-answer or release-guard signal that has no place: before address complete it clears our call. */
+static answer out_of_place(unsigned state, unsigned flags)
+{
+    return state == SEIZED ? goes(AWAITING_GUARD, flags, 6, CLF, 0) : discarded(state, flags);
+}
+
 static answer on_rlg(unsigned state, unsigned flags)
 {
     if (state == AWAITING_GUARD || state == AWAITING_RESET)
         return FREES | goes(IDLE, flags, 5, 0, 0);
-    return discarded(state, flags);
+    return out_of_place(state, flags);
 }
 
 static answer on_signal(uint32_t heading, uint32_t detail, unsigned state, unsigned flags, int controls)
@@ -154,11 +160,11 @@ static answer on_signal(uint32_t heading, uint32_t detail, unsigned state, unsig
     case ACM:
         return state == SEIZED ? goes(PROCEEDING, flags, 2, 0, 0) : discarded(state, flags);
     case ANC: case ANN:
-        return state == PROCEEDING ? goes(ANSWERED, flags, 3, 0, 0) : discarded(state, flags);
+        return state == PROCEEDING ? goes(ANSWERED, flags, 3, 0, 0) : out_of_place(state, flags);
     case CBK:
-        return state == ANSWERED ? goes(HUNG_UP, flags, 4, 0, 0) : discarded(state, flags);
+        return state == ANSWERED ? goes(HUNG_UP, flags, 4, 0, 0) : out_of_place(state, flags);
     case RAN:
-        return state == HUNG_UP ? goes(ANSWERED, flags, 3, 0, 0) : discarded(state, flags);
+        return state == HUNG_UP ? goes(ANSWERED, flags, 3, 0, 0) : out_of_place(state, flags);
     case CLF:
         return on_clf(state, flags, controls);
     case RLG:

@@ -77,8 +77,8 @@ const CALLS: [[u8; 26]; 14] = [
     [
         0x07, // ANC in 0 c
         0x07, // ANC in 0 n
-        0x17, // ANC in 1 c
-        0x17, // ANC in 1 n
+        0x5b, // ANC in 1 c
+        0x5b, // ANC in 1 n
         0x33, // ANC in 2 c
         0x33, // ANC in 2 n
         0x37, // ANC in 3 c
@@ -105,8 +105,8 @@ const CALLS: [[u8; 26]; 14] = [
     [
         0x07, // ANN in 0 c
         0x07, // ANN in 0 n
-        0x17, // ANN in 1 c
-        0x17, // ANN in 1 n
+        0x5b, // ANN in 1 c
+        0x5b, // ANN in 1 n
         0x33, // ANN in 2 c
         0x33, // ANN in 2 n
         0x37, // ANN in 3 c
@@ -133,8 +133,8 @@ const CALLS: [[u8; 26]; 14] = [
     [
         0x07, // CBK in 0 c
         0x07, // CBK in 0 n
-        0x17, // CBK in 1 c
-        0x17, // CBK in 1 n
+        0x5b, // CBK in 1 c
+        0x5b, // CBK in 1 n
         0x27, // CBK in 2 c
         0x27, // CBK in 2 n
         0x44, // CBK in 3 c
@@ -189,8 +189,8 @@ const CALLS: [[u8; 26]; 14] = [
     [
         0x07, // RAN in 0 c
         0x07, // RAN in 0 n
-        0x17, // RAN in 1 c
-        0x17, // RAN in 1 n
+        0x5b, // RAN in 1 c
+        0x5b, // RAN in 1 n
         0x27, // RAN in 2 c
         0x27, // RAN in 2 n
         0x37, // RAN in 3 c
@@ -217,8 +217,8 @@ const CALLS: [[u8; 26]; 14] = [
     [
         0x07, // RLG in 0 c
         0x07, // RLG in 0 n
-        0x17, // RLG in 1 c
-        0x17, // RLG in 1 n
+        0x5b, // RLG in 1 c
+        0x5b, // RLG in 1 n
         0x27, // RLG in 2 c
         0x27, // RLG in 2 n
         0x37, // RLG in 3 c

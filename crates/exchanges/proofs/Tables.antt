@@ -171,8 +171,13 @@ module _ (own far cic m n : ℕ) (good : badGroup own far (recordsIn m) ≡ fals
             reached = subst (λ (p : ends.Pair). ends.Reached (controls own far cic) (controls far own cic) (p .1) (p .0)) (turned far own cic e y x (i .second) not13) (ends.Reached.atSecond (i .reached) (seen far own cic e));
           }
 
+-- what two tables come to, two ends of the circuit come to
+pub endsOf : (own far cic m n : ℕ) → badGroup own far (recordsIn m) ≡ false → badGroup far own (recordsIn n) ≡ false → cic < recordsIn m → cic < recordsIn n
+    → {x y : Exchange} → ReachedIn own far cic m n x y → ends.Reached (controls own far cic) (controls far own cic) (endAt cic x) (endAt cic y)
+endsOf own far cic m n good good' h h' r = holds own far cic m n good good' h h' r .reached
+
 -- two codes of a group are different
-different : (own far records : ℕ) → badGroup own far records ≡ false → own ≡ far → ⊥
+pub different : (own far records : ℕ) → badGroup own far records ≡ false → own ≡ far → ⊥
 different own far records good same = go (badCode own) (badCode far) (eqb own far) (eq-eqb own far same) (eqb records 0 || ltb 4096 records) good
   where
     go : (a b d : Bool) → d ≡ true → (e : Bool) → (a || b || d || e) ≡ false → ⊥
@@ -190,4 +195,4 @@ mirrorTables (atSecond r h not13) = atFirst (mirrorTables r) h not13
 pub tablesAgree : ClaimIn
 unfolding ClaimIn ends.Claim
 tablesAgree own far cic m n good good' h h' x y r ex ey wx wy =
-    twoEndsAgree own far cic (different own far (recordsIn m) good) (endAt cic x) (endAt cic y) (holds own far cic m n good good' h h' r .reached) ex ey wx wy
+    twoEndsAgree own far cic (different own far (recordsIn m) good) (endAt cic x) (endAt cic y) (endsOf own far cic m n good good' h h' r) ex ey wx wy

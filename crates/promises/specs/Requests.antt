@@ -1,21 +1,26 @@
--- What later requests added: T-01, release ranks (docs/RULES.md, "Release ranks"), T-02, the choice of a circuit ("Choice of a circuit"), and T-06,
--- the rules as a constant table ("Forms in the code").
+-- What later requests added: T-01, release ranks (docs/RULES.md, "Release ranks"), T-02, the choice of a circuit ("Choice of a circuit"), T-03,
+-- nonsense before address complete ("Signals that arrive"), and T-06, the rules as a constant table ("Forms in the code").
 -- Assumes nothing.
-use mathlib.Core.Path.{_≡_, refl, ap}
+use mathlib.Core.Path.{_≡_, refl, sym, ap, subst}
 use mathlib.Core.Bool.{Bool, true, false, not, cond, _&&_, _||_}
 use mathlib.Core.List.{List, [], _∷_}
 use mathlib.Core.Logic.{_↔_}
 use Prim.Native.Nat.{ℕ, suc, _+_, _<_, _≤_, _^_}
+use native.Mathlib.Omega.{arith}
 use lib.Dec.{T, eqb, leb}
 use lib.ListN.{length}
 use Rattle.circuit.specs.declared.Record.{Record}
-use Rattle.circuit.specs.declared.Signal.the-variants.{Clf, Rlg, Rsc}
+use Rattle.circuit.specs.declared.Signal.{Signal}
+use Rattle.circuit.specs.declared.Signal.the-variants.{Iam, Anc, Ann, Cbk, Clf, Ran, Rlg, Bla, Uba, Rsc}
+use Rattle.circuit.specs.declared.Sends.the-variants.{One}
 use Rattle.circuit.specs.declared.Command.the-variants.{Seize}
 use Rattle.circuit.specs.declared.Event.{Event}
 use Rattle.circuit.specs.declared.Event.the-variants.{Arrives, Ordered}
-use Rattle.circuit.specs.Records.{valid}
+use Rattle.circuit.specs.Records.{rec, valid}
+use Rattle.circuit.specs.Rows.{first, answered, discarded}
 use Rattle.circuit.specs.Groups.{badGroup, controls}
 use Rattle.circuit.specs.Refusals.{Rule, refuse, firstOf, Given}
+use Rattle.circuit.proofs.Every.{isTrue}
 use Rattle.codes.specs.declared.Found.{Found}
 use Rattle.codes.specs.declared.Found.the-variants.{Is}
 use Rattle.words.specs.Words.{largest}
@@ -32,7 +37,11 @@ use Rattle.select.specs.First.{some}
 use Rattle.select.specs.Selection.{qualifies, selectIn}
 use Rattle.select.proofs.First.{someAt, noneAt}
 use Rattle.select.proofs.Laws as choices
-use Rattle.inverse.proofs.Refusals.{answered}
+use Rattle.inverse.proofs.Refusals.{answered as givenExactly}
+use Rattle.ends.specs.Ends.{End, Reached}
+use Rattle.exchanges.specs.Tables.{Exchange, ReachedIn, endAt}
+use Rattle.exchanges.proofs.Tables.{endsOf, different}
+use Rattle.promises.specs.Demand3.{Never, neverNext}
 
 -- T-01. REMEMBER WHEN A CIRCUIT WAS FREED
 
@@ -151,7 +160,7 @@ module _ (own far : ℕ) (table : List ℕ) where
   choiceRefused = choices.refusals own far table
 
   pub choiceGiven : (k : ℕ) → (selectIn own far table .refusal ≡ suc k) ↔ Given (suc k) choiceRules
-  choiceGiven = answered choiceRules (selectIn own far table .refusal) choiceRefused
+  choiceGiven = givenExactly choiceRules (selectIn own far table .refusal) choiceRefused
 
   -- each refusal reports circuit 0 and count 0
   pub refusedReportsNone : (selectIn own far table .refusal ≡ 0 → ⊥) → (chosen ≡ 0) × (selectIn own far table .looked ≡ 0)
@@ -171,6 +180,64 @@ pub neverTheSame : (own far : ℕ) (here there : List ℕ) → (own ≡ far → 
     → (j : ℕ) → j < recordsIn (length there) → T (qualifies there j && controls far own j)
     → selectIn own far here .cic .0 ≡ selectIn far own there .cic .0 → ⊥
 neverTheSame = choices.neverMeet
+
+-- T-03. NONSENSE BEFORE ADDRESS COMPLETE
+
+-- an answer, clear-back, re-answer or release-guard signal: these five and no other
+pub data Nonsense : Signal → Type 0 where
+  anc : Nonsense Anc
+  ann : Nonsense Ann
+  cbk : Nonsense Cbk
+  ran : Nonsense Ran
+  rlg : Nonsense Rlg
+
+-- a record in state 1, whatever flags it has of those that are allowed
+module _ (own far bla uba : Bool) (allowed : T (valid (rec 1 own far bla uba))) where
+  abbrev seized : Record
+  seized = rec 1 own far bla uba
+
+  -- in both roles they send CLF, go to 5 and give indication 6; no flag changes
+  pub nonsenseReleases : (c : Bool) (s : Signal) → Nonsense s → step c seized (Arrives s) ≡ answered (rec 5 own far bla uba) (One Clf) 6
+  unfolding step first
+  nonsenseReleases c _ anc = rw (isTrue (valid seized) allowed) refl
+  nonsenseReleases c _ ann = rw (isTrue (valid seized) allowed) refl
+  nonsenseReleases c _ cbk = rw (isTrue (valid seized) allowed) refl
+  nonsenseReleases c _ ran = rw (isTrue (valid seized) allowed) refl
+  nonsenseReleases c _ rlg = rw (isTrue (valid seized) allowed) refl
+
+  -- what else makes no sense there is discarded as before: IAM and CLF where our end controls the circuit, BLA and UBA that are not awaited
+  pub othersDiscarded : (step true seized (Arrives Iam) ≡ discarded seized) × (step true seized (Arrives Clf) ≡ discarded seized)
+      × ((c : Bool) → bla ≡ false → step c seized (Arrives Bla) ≡ discarded seized)
+      × ((c : Bool) → uba ≡ false → step c seized (Arrives Uba) ≡ discarded seized)
+  unfolding step first
+  othersDiscarded = (
+    rw (isTrue (valid seized) allowed) refl,
+    rw (isTrue (valid seized) allowed) refl,
+    (λ c e. rw (isTrue (valid seized) allowed, e) refl),
+    (λ c e. rw (isTrue (valid seized) allowed, e) refl),
+  )
+
+never : {s : Signal} → Nonsense s → Never s 1
+never anc = Never.answerCharged
+never ann = Never.answerFree
+never cbk = Never.clearBack
+never ran = Never.reAnswer
+never rlg = Never.releaseGuard {p = 1} (λ e. omega arith) (λ e. omega arith)
+
+-- Between two ends of ours, whatever happened to them (`Demand3`), none of these ever arrives in state 1: what is the next to arrive at an end in
+-- state 1 is none of them. So the row is about other makers' exchanges alone.
+pub nonsenseNeverComes : (own far cic : ℕ) → (own ≡ far → ⊥)
+    → (r : Record) (s : Signal) (w : List Signal) (y : End) → Reached (controls own far cic) (controls far own cic) (record { holds = r; coming = s ∷ w }) y
+    → r .state ≡ 1 → Nonsense s → ⊥
+nonsenseNeverComes own far cic apart r s w y q one n = neverNext own far cic apart r s w y q (subst (Never s) (sym one) (never n))
+
+-- the same of two exchanges with a table each, on any circuit that both have
+pub nonsenseNeverComesIn : (own far cic m n : ℕ) → badGroup own far (recordsIn m) ≡ false → badGroup far own (recordsIn n) ≡ false
+    → cic < recordsIn m → cic < recordsIn n
+    → (t : List ℕ) (s : Signal) (w : List Signal) (y : Exchange) → ReachedIn own far cic m n (record { holds = t; coming = s ∷ w }) y
+    → recordAt t cic .state ≡ 1 → Nonsense s → ⊥
+nonsenseNeverComesIn own far cic m n good good' has has' t s w y q one =
+    nonsenseNeverComes own far cic (different own far (recordsIn m) good) (recordAt t cic) s w (endAt cic y) (endsOf own far cic m n good good' has has' q) one
 
 -- T-06. SHOW THE RULES AS A TABLE
 

@@ -208,10 +208,10 @@ fn part_6() -> u64
         b"\x00\xff\x3f\x01\x00\x00\x10\x01\xff\x0f\x46\x00\x01\xff\x0f\x27\x00\x01\x00\x10\x27\x00",
         b"own 16383 far 1 circuits 4096\n1 4095 0 0 0 0 17\n2 4095 0 0 2 0 37\n3 4096 2 - - 0 -\nend 3\n",
     );
-    // two signals sent
+    // two signals sent; then, on the other circuit, nonsense before address complete
     let c = wrong(
-        b"\x00\x02\x00\x01\x00\x02\x00\x02\x00\x00\x01\x00\x01\x00\x00\x27\x00",
-        b"own 2 far 1 circuits 2\n1 0 0 1 0 0 11\n2 0 0 5 2 6 37,46\nend 2\n",
+        b"\x00\x02\x00\x01\x00\x02\x00\x02\x00\x00\x01\x00\x01\x00\x00\x27\x00\x02\x01\x00\x01\x00\x01\x01\x00\x17\x00",
+        b"own 2 far 1 circuits 2\n1 0 0 1 0 0 11\n2 0 0 5 2 6 37,46\n3 1 0 1 0 0 11\n4 1 0 5 0 6 46\nend 4\n",
     );
     a + b + c
 }

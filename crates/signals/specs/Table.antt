@@ -1,4 +1,4 @@
--- Document 01's table "Signals that arrive", its rows in the printed order.
+-- Document 01's table "Signals that arrive", its rows in the printed order, and the row that T-03 added.
 -- Assumes nothing.
 use mathlib.Core.Bool.{Bool, true, false, not, _||_}
 use mathlib.Core.List.{List, [], _∷_}
@@ -27,6 +27,10 @@ bloFirst true (Two s t) = Two s t
 abbrev pub rscRow : Record → ℕ → ℕ → Sends → ℕ → ℕ → Row
 rscRow r low high sends new ind = row low high true (bloFirst (r .own) sends) (to (reset r) new) ind
 
+-- T-03, nonsense before address complete: an answer, clear-back, re-answer or release-guard signal in 1 sends CLF, goes to 5, indication 6
+abbrev pub nonsense : Record → Row
+nonsense r = row 1 1 true (One Clf) (to r 5) 6
+
 -- The table. c: our end controls the circuit ("c"; "n" is not c). r: the record when the signal arrives.
 -- A row: the states from .. to, its condition, what is sent, the new record, the indication.
 abbrev pub table : (c : Bool) (r : Record) → Signal → List Row
@@ -41,15 +45,19 @@ table c r (Acm octet) =
     ∷ []
 table c r Anc =
     row 2 2 true Nothing (to r 3) 3
+    ∷ nonsense r
     ∷ []
 table c r Ann =
     row 2 2 true Nothing (to r 3) 3
+    ∷ nonsense r
     ∷ []
 table c r Cbk =
     row 3 3 true Nothing (to r 4) 4
+    ∷ nonsense r
     ∷ []
 table c r Ran =
     row 4 4 true Nothing (to r 3) 3
+    ∷ nonsense r
     ∷ []
 table c r (Fail f) =
     row 1 4 true (One Clf) (to r 5) 10
@@ -64,6 +72,7 @@ table c r Clf =
 table c r Rlg =
     row 5 5 true Nothing (to r 0) 5
     ∷ row 12 12 true Nothing (to r 0) 5
+    ∷ nonsense r
     ∷ []
 table c r Rsc =
     rscRow r 0 0 (One Rlg) 0 0
