@@ -412,25 +412,27 @@ const CALLS: [[u8; 26]; 14] = [
     ],
 ];
 
-// A signal's column. It is named by a constant in each case, since the compiler copies what is asked of a constant: a column, and not the table.
+// A signal's column. Each case names it by a constant number, since the compiler copies what is asked of a constant: a column, and not the table.
+// The table itself is named once: the prover carries all of it wherever it is named.
 fn column(s: Signal) -> [u8; 26]
     ensures { λ r. ⌜ Column s r ⌝ }
 {
+    let table = CALLS;
     match s {
-        Signal::Iam => CALLS[0],
-        Signal::Acm(_) => CALLS[1],
-        Signal::Anc => CALLS[2],
-        Signal::Ann => CALLS[3],
-        Signal::Cbk => CALLS[4],
-        Signal::Clf => CALLS[5],
-        Signal::Ran => CALLS[6],
-        Signal::Rlg => CALLS[7],
-        Signal::Blo => CALLS[8],
-        Signal::Bla => CALLS[9],
-        Signal::Ubl => CALLS[10],
-        Signal::Uba => CALLS[11],
-        Signal::Rsc => CALLS[12],
-        Signal::Fail(_) => CALLS[13],
+        Signal::Iam => table[0],
+        Signal::Acm(_) => table[1],
+        Signal::Anc => table[2],
+        Signal::Ann => table[3],
+        Signal::Cbk => table[4],
+        Signal::Clf => table[5],
+        Signal::Ran => table[6],
+        Signal::Rlg => table[7],
+        Signal::Blo => table[8],
+        Signal::Bla => table[9],
+        Signal::Ubl => table[10],
+        Signal::Uba => table[11],
+        Signal::Rsc => table[12],
+        Signal::Fail(_) => table[13],
     }
 }
 
