@@ -37,7 +37,7 @@ static const struct run {
     {NOTHING_BROKEN, "all rules kept, a slow link", 9, 0},
     {TIMERS_WAIT_NOT, "timers that do not wait for a quiet circuit", 9, 204},
     {MINUTE_BESIDE_REPEAT, "timer 5 beside timer 4", 9, 208},
-    {RESET_WAITS_NOT, "a reset that does not wait for a quiet circuit", 9, 265},
+    {RESET_WAITS_NOT, "a reset that does not wait for a quiet circuit", 9, 11},
     {START_WAITS_NOT, "a host that comes up and does not wait", 9, 88},
     {START_RESTARTS_NOT, "a host that comes up and does not restart its circuits", 9, 179},
     {START_WITH_STORED, "a host that comes up with a stored table", 9, 254},
