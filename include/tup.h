@@ -113,7 +113,7 @@ TUP_ENUM(tup_indication) {
     TUP_IND_ANSWERED = 3,
     TUP_IND_HUNG_UP = 4,
     TUP_IND_CIRCUIT_FREED = 5,
-    TUP_IND_TRY_ELSEWHERE = 6, /* of our own call; the circuit may still await release-guard: it is free with indication 5 */
+    TUP_IND_TRY_ELSEWHERE = 6, /* of our own call; the circuit may still await release-guard, and is then free with indication 5 */
     TUP_IND_DISCARDED = 7, /* of the signal; not always "nothing changed": see RSC in state 5 */
     TUP_IND_ALERT_MAINTENANCE = 8,
     TUP_IND_INCOMING_CALL_TRY_OWN_ELSEWHERE = 9,
