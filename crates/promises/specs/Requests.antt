@@ -224,8 +224,8 @@ never cbk = Never.clearBack
 never ran = Never.reAnswer
 never rlg = Never.releaseGuard {p = 1} (λ e. omega arith) (λ e. omega arith)
 
--- Between two ends of ours, whatever happened to them (`Demand3`), none of these ever arrives in state 1: what is the next to arrive at an end in
--- state 1 is none of them. So the row is about other makers' exchanges alone.
+-- Between two ends of ours, whatever happens to them by the rules of `Demand3`, none of these ever arrives in state 1: what is the next to arrive at
+-- an end in state 1 is none of them. So the row is about other makers' exchanges alone.
 pub nonsenseNeverComes : (own far cic : ℕ) → (own ≡ far → ⊥)
     → (r : Record) (s : Signal) (w : List Signal) (y : End) → Reached (controls own far cic) (controls far own cic) (record { holds = r; coming = s ∷ w }) y
     → r .state ≡ 1 → Nonsense s → ⊥
