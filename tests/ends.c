@@ -1,13 +1,12 @@
 /* Two ends over octets: both exchanges of a few circuits run by tup_step, every signal written by tup_write, carried as octets in
    two queues a circuit, and read by tup_read; hosts that do anything at any time, restarts that empty both queues, and timers.
    At every quiet moment the two records must agree, as demand 3 asks, in states and flags; and no nonsense may ever arrive where
-   our own call awaits address complete. Ranks and counters have no part in it:
-   now and then a host sets those of its table to any numbers that leave the counter room, so that no event is refused 13. */
+   our own call awaits address complete. Ranks and counters have no part in it: now and then a host sets those of its table to any
+   numbers that leave the counter room, so that no event is refused 13. */
 #include "harness.h"
 #include "tup.h"
 
 #include <stdio.h>
-#include <string.h>
 
 enum { CIRCUITS = 4, QUEUE = 32, STATES = 13 };
 
@@ -99,14 +98,11 @@ static void event(unsigned end, uint32_t circuit, uint32_t kind, uint32_t code, 
     send(end, circuit, tup_answer_second(answer), detail);
 }
 
-/* What makes no sense before address complete, and only exchanges of other makers send there. */
 static void expect_sense(unsigned end, uint32_t circuit, uint32_t heading)
 {
-    static const uint8_t nonsense[] = {TUP_ANC, TUP_ANN, TUP_CBK, TUP_RAN, TUP_RLG};
-    if (tup_record_state(table[end], circuit) != TUP_OUT_SEIZED)
-        return;
-    seen.in_seized++;
-    if (memchr(nonsense, (int)heading, sizeof nonsense) != NULL)
+    uint32_t state = tup_record_state(table[end], circuit);
+    seen.in_seized += state == TUP_OUT_SEIZED;
+    if (is_nonsense(state, heading))
         differ("heading %02x arrives at end %u before address complete", heading, end);
 }
 

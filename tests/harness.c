@@ -145,6 +145,12 @@ int stages_agree(uint32_t state, uint32_t other)
     return 0;
 }
 
+int is_nonsense(uint32_t state, uint32_t heading)
+{
+    static const uint8_t later[] = {0x16, 0x26, 0x36, 0x56, 0x17}; /* ANC, ANN, CBK, RAN, RLG */
+    return state == 1 && memchr(later, (int)heading, sizeof later) != NULL;
+}
+
 static uint8_t *room_view(FILE *file, int protection)
 {
     uint8_t *around = mmap(NULL, 3 * (size_t)ROOM, PROT_NONE, MAP_PRIVATE | MAP_ANONYMOUS, -1, 0);

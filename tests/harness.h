@@ -42,6 +42,9 @@ enum { STAGES = 6 };
 extern const uint8_t stages[STAGES][2];
 int stages_agree(uint32_t state, uint32_t other);
 
+/* Whether a signal makes no sense in this state, since address complete has not come: two ends of ours never send it there. */
+int is_nonsense(uint32_t state, uint32_t heading);
+
 /* A stretch of octets seen twice: `open` may be written, `shut` only read. Both lie between unreadable stretches. */
 enum { ROOM = 65536 };
 struct room {

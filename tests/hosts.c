@@ -1,8 +1,8 @@
 /* Two hosts made of examples/exchange.c over a link on which a signal takes its time, driven at random: calls, blocks, resets by
    maintenance, hosts that go down at any moment and come up again, a link that fails and loses what is on it, memory that is
-   overwritten, and waits through the 60th second. By the rules of docs/HOST.md the ends agree at every quiet moment. Then each rule
-   is broken in turn, and a fixed seed shows that the ends come to disagree without it. `hosts search` looks for such seeds, where a
-   change has made others of them. */
+   overwritten, and waits through the 60th second. By the rules of docs/HOST.md the ends agree at every quiet moment, and where no
+   signal was lost no nonsense arrives before address complete. Then each rule is broken in turn, and a fixed seed shows that the
+   ends come to disagree without it. `hosts search` looks for such seeds, where a change has made others of them. */
 #include "../examples/exchange.h"
 #include "harness.h"
 
@@ -70,7 +70,7 @@ static unsigned load; /* how much the hosts want, busy at one time and calm at a
 
 static struct {
     unsigned long seconds, events, quiet, apart[STATES][STATES], marks[2][2], lost, starts, failures, resets, waited, minutes, both,
-        overwritten;
+        overwritten, in_seized;
 } seen;
 
 static void describe(void)
@@ -166,6 +166,11 @@ static void tell(struct exchange *x, uint32_t circuit, uint32_t kind, uint32_t c
     uint32_t before = state_before[end_of(x)][circuit];
     int minute = kind == TUP_TIMER && code == TUP_TIMER_MINUTE && before != TUP_AWAITING_RESET;
     seen.events++;
+    if (kind == TUP_SIGNAL && trusted[circuit] && run->broken == NOTHING_BROKEN) {
+        seen.in_seized += before == TUP_OUT_SEIZED;
+        if (is_nonsense(before, code))
+            differ("by the rules, and heading %02x arrives on circuit %u before address complete", code, circuit);
+    }
     if (tup_answer_refusal(answer) != TUP_ACCEPTED)
         return;
     if (kind == TUP_TIMER && code == TUP_TIMER_MINUTE)
@@ -384,6 +389,7 @@ static void expect_all_seen(void)
     expect_seen(seen.lost, "signals lost");
     expect_seen(seen.starts, "a host that comes up");
     expect_seen(seen.overwritten, "memory overwritten");
+    expect_seen(seen.in_seized, "a signal before address complete");
     expect_seen(seen.waited, "a reset that waits");
     expect_seen(seen.both, "timers 4 and 5 due in one second");
 }

@@ -412,8 +412,8 @@ const CALLS: [[u8; 26]; 14] = [
     ],
 ];
 
-// A signal's column. Each case names it by a constant number, since the compiler copies what is asked of a constant: a column, and not the table.
-// The table itself is named once: the prover carries all of it wherever it is named.
+// A signal's column. Each case names it by a constant number, so that the compiler copies that column and not the table. The table itself is named
+// once, since the prover carries all of it wherever it is named.
 fn column(s: Signal) -> [u8; 26]
     ensures { λ r. ⌜ Column s r ⌝ }
 {

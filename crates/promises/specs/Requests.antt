@@ -4,15 +4,16 @@
 use mathlib.Core.Path.{_≡_, refl, sym, ap, subst}
 use mathlib.Core.Bool.{Bool, true, false, not, cond, _&&_, _||_}
 use mathlib.Core.List.{List, [], _∷_}
-use mathlib.Core.Logic.{_↔_}
+use mathlib.Core.Logic.{_↔_, _⊎_, inl, inr}
 use Prim.Native.Nat.{ℕ, suc, _+_, _<_, _≤_, _^_}
 use native.Mathlib.Omega.{arith}
 use lib.Dec.{T, eqb, leb}
 use lib.ListN.{length}
 use Rattle.circuit.specs.declared.Record.{Record}
 use Rattle.circuit.specs.declared.Signal.{Signal}
-use Rattle.circuit.specs.declared.Signal.the-variants.{Iam, Anc, Ann, Cbk, Clf, Ran, Rlg, Bla, Uba, Rsc}
-use Rattle.circuit.specs.declared.Sends.the-variants.{One}
+use Rattle.circuit.specs.declared.Signal.the-variants.{Iam, Acm, Anc, Ann, Cbk, Clf, Ran, Rlg, Blo, Bla, Ubl, Uba, Rsc, Fail}
+use Rattle.circuit.specs.declared.Sends.the-variants.{Nothing, One}
+use Rattle.circuit.specs.declared.Outcome.{Outcome}
 use Rattle.circuit.specs.declared.Command.the-variants.{Seize}
 use Rattle.circuit.specs.declared.Event.{Event}
 use Rattle.circuit.specs.declared.Event.the-variants.{Arrives, Ordered}
@@ -191,19 +192,50 @@ pub data Nonsense : Signal → Type 0 where
   ran : Nonsense Ran
   rlg : Nonsense Rlg
 
+-- what has another indication has not 6
+not6 : (n : ℕ) → T (not (eqb n 6)) → n ≡ 6 → ⊥
+not6 n t e = rw e at t
+
+neither6 : (b : Bool) (o p : Outcome) → T (not (eqb (o .ind) 6)) → T (not (eqb (p .ind) 6)) → cond b o p .ind ≡ 6 → ⊥
+neither6 true o p t u e = not6 (o .ind) t e
+neither6 false o p t u e = not6 (p .ind) u e
+
 -- a record in state 1, whatever flags it has of those that are allowed
 module _ (own far bla uba : Bool) (allowed : T (valid (rec 1 own far bla uba))) where
   abbrev seized : Record
   seized = rec 1 own far bla uba
 
+  is : valid seized ≡ true
+  is = isTrue (valid seized) allowed
+
   -- in both roles they send CLF, go to 5 and give indication 6; no flag changes
   pub nonsenseReleases : (c : Bool) (s : Signal) → Nonsense s → step c seized (Arrives s) ≡ answered (rec 5 own far bla uba) (One Clf) 6
   unfolding step first
-  nonsenseReleases c _ anc = rw (isTrue (valid seized) allowed) refl
-  nonsenseReleases c _ ann = rw (isTrue (valid seized) allowed) refl
-  nonsenseReleases c _ cbk = rw (isTrue (valid seized) allowed) refl
-  nonsenseReleases c _ ran = rw (isTrue (valid seized) allowed) refl
-  nonsenseReleases c _ rlg = rw (isTrue (valid seized) allowed) refl
+  nonsenseReleases c _ anc = rw (is) refl
+  nonsenseReleases c _ ann = rw (is) refl
+  nonsenseReleases c _ cbk = rw (is) refl
+  nonsenseReleases c _ ran = rw (is) refl
+  nonsenseReleases c _ rlg = rw (is) refl
+
+  -- no other signal gives indication 6 there but those that did before: BLO, RSC, and CLF where our end does not control the circuit
+  pub noOtherGives6 : (c : Bool) (s : Signal) → step c seized (Arrives s) .ind ≡ 6 → Nonsense s ⊎ (s ≡ Blo) ⊎ (s ≡ Rsc) ⊎ (s ≡ Clf) × (c ≡ false)
+  unfolding step first
+  noOtherGives6 c Anc e = inl anc
+  noOtherGives6 c Ann e = inl ann
+  noOtherGives6 c Cbk e = inl cbk
+  noOtherGives6 c Ran e = inl ran
+  noOtherGives6 c Rlg e = inl rlg
+  noOtherGives6 c Blo e = inr (inl refl)
+  noOtherGives6 c Rsc e = inr (inr (inl refl))
+  noOtherGives6 false Clf e = inr (inr (inr (refl, refl)))
+  noOtherGives6 true Clf e = absurd (not6 7 tt (rw (is) at e))
+  noOtherGives6 true Iam e = absurd (not6 7 tt (rw (is) at e))
+  noOtherGives6 false Iam e = absurd (not6 9 tt (rw (is) at e))
+  noOtherGives6 c (Acm octet) e = absurd (not6 2 tt (rw (is) at e))
+  noOtherGives6 c (Fail f) e = absurd (not6 10 tt (rw (is) at e))
+  noOtherGives6 c Ubl e = absurd (not6 0 tt (rw (is) at e))
+  noOtherGives6 c Bla e = absurd (neither6 bla (answered (rec 1 own far false uba) Nothing 0) (discarded seized) tt tt (rw (is) at e))
+  noOtherGives6 c Uba e = absurd (neither6 uba (answered (rec 1 own far bla false) Nothing 0) (discarded seized) tt tt (rw (is) at e))
 
   -- what else makes no sense there is discarded as before: IAM and CLF where our end controls the circuit, BLA and UBA that are not awaited
   pub othersDiscarded : (step true seized (Arrives Iam) ≡ discarded seized) × (step true seized (Arrives Clf) ≡ discarded seized)
@@ -211,10 +243,10 @@ module _ (own far bla uba : Bool) (allowed : T (valid (rec 1 own far bla uba))) 
       × ((c : Bool) → uba ≡ false → step c seized (Arrives Uba) ≡ discarded seized)
   unfolding step first
   othersDiscarded = (
-    rw (isTrue (valid seized) allowed) refl,
-    rw (isTrue (valid seized) allowed) refl,
-    (λ c e. rw (isTrue (valid seized) allowed, e) refl),
-    (λ c e. rw (isTrue (valid seized) allowed, e) refl),
+    rw (is) refl,
+    rw (is) refl,
+    (λ c e. rw (is, e) refl),
+    (λ c e. rw (is, e) refl),
   )
 
 never : {s : Signal} → Nonsense s → Never s 1
