@@ -1,127 +1,442 @@
-/* Two ends over octets: both exchanges of a few circuits run by tup_step, every signal written by tup_write, carried as octets in
-   two queues a circuit, and read by tup_read; hosts that do anything at any time, restarts that empty both queues, and timers.
-   At every quiet moment the two records must agree, as demand 3 asks, in states and flags; and no nonsense may ever arrive where
-   our own call awaits address complete. Ranks and counters have no part in it: now and then a host sets those of its table to any
-   numbers that leave the counter room, so that no event is refused 13. */
+/* Two exchanges over one link: several circuits, and one queue of octets a direction, in which their messages are mixed. Both ends
+   are run by tup_step; every signal is written by tup_write, and the oldest octets on their way are read by tup_read and given to
+   the circuit that they name. The hosts do anything at any time, as far as demand 3 allows (docs/RULES.md): a restart loses the
+   messages of its own circuit, in both directions, and timers 4 to 6 wait until none of those is on its way.
+   Whenever none of a circuit's messages is on its way, whatever the link carries of others, its ends must agree in states and
+   blocks unless one awaits reset; so an end may rest awaiting release-guard only opposite one that awaits reset. And no nonsense
+   may ever arrive where a call awaits address complete.
+   Beside this goes on what must not matter: circuits that only one of the exchanges has, octets that neither of them wrote, one
+   circuit set aside with any record and messages of anybody's, counters and ranks of any size that leaves the counter room.
+   It holds from idle records on, and as well from any two legal ones, whatever was lost before, once either end has restarted the
+   circuit: in some of the episodes of a run at random, and before it once for every two records. */
 #include "harness.h"
 #include "tup.h"
 
 #include <stdio.h>
+#include <string.h>
 
-enum { CIRCUITS = 4, QUEUE = 32, STATES = 13 };
+/* Circuits of a group; NONE is where messages are counted that are about no circuit. */
+enum { LEAST = 4, MOST = 6, NONE = MOST };
+
+/* Messages that a direction of the link has room for, and more than which the hosts do not let wait there. */
+enum { WAY = 128, MANY = 32 };
+
+/* Events of an episode; states; legal records; orders of arrival tried for every two of these. */
+enum { EPISODE = 5000, STATES = 13, LEGAL = 98, ORDERS = 3 };
+
+enum { CODES = 16384, LABEL = 5, REFUSALS = 15, INDICATIONS = 11, TIMERS = 7 };
+
+/* Octets that neither end wrote. But for the last kind, the reader refuses them. */
+enum foreign { JUNK, WRONG_CODES, TRUNCATED, UNKNOWN_HEADING, SPARE_DIGIT, ON_CIRCUIT_ASIDE, FOREIGN };
 
 struct message {
     uint8_t octets[TUP_MESSAGE_MAX];
     size_t len;
+    uint32_t about;   /* its circuit; NONE for foreign octets that are refused */
+    uint32_t refusal; /* what the reader at the other end is to say */
 };
 
-struct queue {
-    struct message at[QUEUE];
+/* What each exchange knows of the group, and the table that it keeps; the octets behind its last circuit are not lent. */
+static struct group { uint32_t own, far, circuits; } group[2];
+static uint8_t table[2][TUP_TABLE_OCTETS(MOST)], at_first[2][TUP_TABLE_OCTETS(MOST)];
+
+/* way[i] carries what end i sent, in order; on_way counts by circuit, in both directions. */
+static struct queue {
+    struct message at[WAY];
     unsigned first, count;
-};
+} way[2];
+static unsigned on_way[MOST + 1];
 
-/* Ends 0 and 1 have the codes 2 and 1; way[i] carries what end i sent. */
-static uint8_t table[2][TUP_TABLE_OCTETS(CIRCUITS)];
-static struct queue way[2][CIRCUITS];
-static const uint32_t codes[2] = {2, 1};
+static uint32_t aside;           /* the circuit set aside: its ends are not compared */
+static int to_be_restarted[MOST]; /* before anything else happens there */
 
 static struct { unsigned end; uint32_t circuit, kind, code, detail; } now;
 static struct {
-    unsigned long quiet, apart[STATES][STATES], marks[2][2], indications[11], headings[256], events, refused, lost, longest;
-    unsigned long set_anew, in_seized;
+    unsigned long events, refused, bad_records, from_idle, from_any, restarted_first, set_anew, in_seized, longest;
+    unsigned long quiet, apart[STATES][STATES], marks[2][2], guard_opposite_reset, amid_others, others, most_others;
+    unsigned long indications[INDICATIONS], headings[256], timers[TIMERS];
+    unsigned long lost, restarts_amid_others, foreign[FOREIGN], dropped[REFUSALS];
 } seen;
+
+static uint32_t state_at(unsigned end, uint32_t circuit)
+{
+    return tup_record_state(table[end], circuit);
+}
+
+static int has_flag(unsigned end, uint32_t circuit, uint32_t flag)
+{
+    return (tup_record_flags(table[end], circuit) & flag) != 0;
+}
 
 static void describe(void)
 {
-    printf("  event %lu, circuit %u, at end %u: kind %u code %u detail %u\n", seen.events, now.circuit, now.end, now.kind, now.code,
-           now.detail);
-    for (unsigned end = 0; end < 2; end++)
-        printf("  end %u: state %u flags %u\n", end, tup_record_state(table[end], now.circuit),
-               tup_record_flags(table[end], now.circuit));
+    printf("  event %lu, circuit %u, at end %u: kind %u code %u detail %u; set aside is circuit %u\n", seen.events, now.circuit,
+           now.end, now.kind, now.code, now.detail, aside);
+    for (unsigned end = 0; end < 2; end++) {
+        printf("  end %u: code %u, %u circuits, has %u messages on their way", end, group[end].own, group[end].circuits,
+               way[end].count);
+        if (now.circuit < group[end].circuits)
+            printf("; state %u flags %u, at first state %u flags %u", state_at(end, now.circuit),
+                   tup_record_flags(table[end], now.circuit), tup_record_state(at_first[end], now.circuit),
+                   tup_record_flags(at_first[end], now.circuit));
+        printf("\n");
+    }
 }
 
-static int silent(uint32_t circuit)
+/* Whether both ends have the circuit, and all that is said about it is said by them. */
+static int compared(uint32_t circuit)
 {
-    return way[0][circuit].count == 0 && way[1][circuit].count == 0;
+    return circuit < group[0].circuits && circuit < group[1].circuits && circuit != aside;
 }
 
-static void draw_address(uint8_t *address, size_t *len)
+/* Demand 3, at a moment when none of the circuit's messages is on its way. */
+static void agree(uint32_t circuit)
 {
-    *len = 1 + draw(TUP_ADDRESS_MAX);
-    for (size_t i = 0; i < *len; i++)
-        address[i] = (uint8_t)draw(10);
-    if (chance(2))
-        address[*len - 1] = 15;
-}
-
-/* Puts a signal on its way as octets; an ACM's octet is the detail of the command that sent it. */
-static void send(unsigned end, uint32_t circuit, uint32_t heading, uint32_t detail)
-{
-    struct queue *queue = &way[end][circuit];
-    uint8_t address[TUP_ADDRESS_MAX];
-    size_t address_len = 0;
-    if (heading == 0)
+    unsigned controlling = tup_controls(group[0].own, group[0].far, circuit) ? 0 : 1, other = 1 - controlling;
+    uint32_t state = state_at(controlling, circuit), opposite = state_at(other, circuit);
+    unsigned others = way[0].count + way[1].count;
+    if (state == TUP_AWAITING_RESET || opposite == TUP_AWAITING_RESET) {
+        seen.guard_opposite_reset += state == TUP_AWAITING_RELEASE_GUARD || opposite == TUP_AWAITING_RELEASE_GUARD;
         return;
-    if (queue->count == QUEUE)
-        differ("the queue is full");
-    struct message *message = &queue->at[(queue->first + queue->count++) % QUEUE];
+    }
+    if (!stages_agree(state, opposite))
+        differ("at a quiet moment the two states do not agree");
+    for (unsigned end = 0; end < 2; end++)
+        if (has_flag(end, circuit, TUP_FAR_BLOCK) != has_flag(1 - end, circuit, TUP_OWN_BLOCK))
+            differ("at a quiet moment the far-block mark of end %u is not the other's own block", end);
+    seen.quiet++;
+    seen.apart[state][opposite]++;
+    seen.marks[has_flag(controlling, circuit, TUP_OWN_BLOCK)][has_flag(other, circuit, TUP_OWN_BLOCK)]++;
+    seen.amid_others += others > 0;
+    seen.others += others;
+    if (others > seen.most_others)
+        seen.most_others = others;
+}
+
+/* The link. */
+
+static struct message *on_link(unsigned from, unsigned place)
+{
+    return &way[from].at[(way[from].first + place) % WAY];
+}
+
+static void put(unsigned from, const struct message *message)
+{
+    if (way[from].count == WAY)
+        differ("the link is full");
+    *on_link(from, way[from].count++) = *message;
+    on_way[message->about]++;
+    if (way[from].count > seen.longest)
+        seen.longest = way[from].count;
+}
+
+static struct message take(unsigned from)
+{
+    struct message message = *on_link(from, 0);
+    way[from].first = (way[from].first + 1) % WAY;
+    way[from].count--;
+    on_way[message.about]--;
+    return message;
+}
+
+/* What a restart does to the link: the messages of its circuit are gone, and all others stay in their order. */
+static void lose(uint32_t circuit)
+{
+    seen.lost += on_way[circuit];
+    for (unsigned from = 0; from < 2; from++) {
+        unsigned kept = 0;
+        for (unsigned i = 0; i < way[from].count; i++)
+            if (on_link(from, i)->about != circuit)
+                *on_link(from, kept++) = *on_link(from, i);
+        way[from].count = kept;
+    }
+    seen.restarts_amid_others += on_way[circuit] > 0 && way[0].count + way[1].count > 0;
+    on_way[circuit] = 0;
+}
+
+/* Messages. */
+
+static size_t draw_address(uint8_t *address)
+{
+    static const uint8_t digits[] = {0, 1, 2, 3, 4, 5, 6, 7, 8, 9, 11, 12};
+    size_t len = 1 + draw(TUP_ADDRESS_MAX);
+    for (size_t i = 0; i < len; i++)
+        address[i] = digits[draw(sizeof digits)];
+    if (chance(2))
+        address[len - 1] = 15;
+    return len;
+}
+
+/* What the writer of this group puts on the link; an IAM's particulars are drawn. */
+static struct message write_message(const struct group *writer, uint32_t circuit, uint32_t heading, uint32_t acm)
+{
+    struct message message = {.about = circuit};
+    uint8_t address[TUP_ADDRESS_MAX];
+    uint32_t category = 0, indicators = 0;
+    size_t address_len = 0;
     if (heading == TUP_IAM)
-        draw_address(address, &address_len);
-    uint32_t written = tup_write(codes[end], codes[1 - end], CIRCUITS, circuit, heading, heading == TUP_ACM ? detail : 0,
-                                 heading == TUP_IAM ? draw(64) : 0, heading == TUP_IAM ? draw(2048) : 0, address, address_len,
-                                 message->octets, sizeof message->octets);
+        category = draw(64), indicators = draw(2048), address_len = draw_address(address);
+    uint32_t written = tup_write(writer->own, writer->far, writer->circuits, circuit, heading, heading == TUP_ACM ? acm : 0,
+                                 category, indicators, address, address_len, message.octets, sizeof message.octets);
     if (tup_written_refusal(written) != 0)
         differ("heading %02x is not written: %u", heading, tup_written_refusal(written));
-    message->len = tup_written_length(written);
-    seen.headings[heading]++;
-    if (queue->count > seen.longest)
-        seen.longest = queue->count;
+    message.len = tup_written_length(written);
+    return message;
+}
+
+/* Of the two codes in the label one is another exchange's, or they have changed places. */
+static struct group with_wrong_codes(struct group writer)
+{
+    struct group wrong = writer;
+    uint32_t code = draw(CODES);
+    while (code == writer.own || code == writer.far)
+        code = draw(CODES);
+    switch (draw(3)) {
+    case 0:
+        wrong.own = code;
+        break;
+    case 1:
+        wrong.far = code;
+        break;
+    default:
+        wrong.own = writer.far, wrong.far = writer.own;
+    }
+    return wrong;
+}
+
+static uint8_t draw_unknown_heading(void)
+{
+    uint8_t heading = (uint8_t)draw(256);
+    while (memchr(headings, heading, HEADINGS) != NULL)
+        heading = (uint8_t)draw(256);
+    return heading;
+}
+
+/* Any octets; not even by chance are they for the exchange with this code. */
+static void fill_with_junk(struct message *message, uint32_t code)
+{
+    message->len = draw(TUP_MESSAGE_MAX + 1);
+    for (size_t i = 0; i < TUP_MESSAGE_MAX; i++)
+        message->octets[i] = (uint8_t)draw(256);
+    message->octets[0] = (uint8_t)(code + 1 + draw(255));
+    message->refusal = message->len <= LABEL ? TUP_WRONG_LENGTH : TUP_WRONG_LABEL;
+}
+
+/* Octets on their way from this end's side that neither end wrote. They may name any circuit, but a message that can be read is
+   about the one set aside, or it would be as good as an end's own. */
+static struct message foreign_message(unsigned from, enum foreign kind)
+{
+    struct group writer = kind == WRONG_CODES ? with_wrong_codes(group[from]) : group[from];
+    uint32_t heading = kind == SPARE_DIGIT ? TUP_IAM : headings[draw(HEADINGS)], circuit = draw(MOST);
+    struct message message = write_message(&writer, kind == ON_CIRCUIT_ASIDE ? aside : circuit, heading, draw(64));
+    if (kind != ON_CIRCUIT_ASIDE)
+        message.about = NONE;
+    switch (kind) {
+    case JUNK:
+        fill_with_junk(&message, writer.far);
+        break;
+    case WRONG_CODES:
+        message.refusal = TUP_WRONG_LABEL;
+        break;
+    case TRUNCATED:
+        message.len = draw((uint32_t)message.len);
+        message.refusal = TUP_WRONG_LENGTH;
+        break;
+    case UNKNOWN_HEADING:
+        message.octets[LABEL] = draw_unknown_heading();
+        message.refusal = TUP_NO_SUCH_HEADING;
+        break;
+    case SPARE_DIGIT:
+        message.octets[LABEL + 4] = 0xAA;
+        message.refusal = TUP_WRONG_ADDRESS;
+        break;
+    default:
+        break;
+    }
+    return message;
+}
+
+static void put_foreign(unsigned from)
+{
+    enum foreign kind = (enum foreign)draw(FOREIGN);
+    struct message message = foreign_message(from, kind);
+    put(from, &message);
+    seen.foreign[kind]++;
+}
+
+/* Events. */
+
+/* Puts a signal on its way; an ACM's octet is the detail of the command that sent it. */
+static void send(unsigned end, uint32_t circuit, uint32_t heading, uint32_t detail)
+{
+    if (heading == TUP_NO_HEADING)
+        return;
+    struct message message = write_message(&group[end], circuit, heading, detail);
+    if (circuit >= group[1 - end].circuits)
+        message.refusal = TUP_NO_SUCH_CIRCUIT;
+    put(end, &message);
+    seen.headings[heading] += compared(circuit) != 0;
+}
+
+/* An accepted event leaves alone the other records, and what is not lent. */
+static void expect_others_kept(unsigned end, uint32_t circuit, const uint8_t *before)
+{
+    size_t record = TUP_RECORD_AT(circuit), next = TUP_RECORD_AT(circuit + 1);
+    if (memcmp(table[end] + TUP_COUNTER_OCTETS, before + TUP_COUNTER_OCTETS, record - TUP_COUNTER_OCTETS) != 0 ||
+        memcmp(table[end] + next, before + next, sizeof table[end] - next) != 0)
+        differ("an event has changed another circuit's record");
+}
+
+static void expect_all_kept(unsigned end, const uint8_t *before)
+{
+    if (memcmp(table[end], before, sizeof table[end]) != 0)
+        differ("what was refused has changed the table of end %u", end);
+}
+
+/* Only the circuit set aside may have a bad record; elsewhere no signal of the other end's is refused. */
+static void expect_refusal(uint32_t refusal)
+{
+    int bad_record = refusal == TUP_BAD_RECORD;
+    if (bad_record ? now.circuit != aside : now.kind == TUP_SIGNAL || refusal == TUP_COUNTER_FULL)
+        differ("the event is refused %u", refusal);
+    seen.refused++;
+    seen.bad_records += (unsigned long)bad_record;
+}
+
+static void taken(uint64_t answer)
+{
+    if (now.kind == TUP_COMMAND && now.code == TUP_RESTART)
+        lose(now.circuit);
+    send(now.end, now.circuit, tup_answer_first(answer), now.detail);
+    send(now.end, now.circuit, tup_answer_second(answer), now.detail);
+    if (!compared(now.circuit))
+        return;
+    seen.indications[tup_answer_indication(answer)]++;
+    if (now.kind == TUP_TIMER)
+        seen.timers[now.code]++;
 }
 
 static void event(unsigned end, uint32_t circuit, uint32_t kind, uint32_t code, uint32_t detail)
 {
+    const struct group *own = &group[end];
+    uint8_t before[sizeof table[0]];
+    memcpy(before, table[end], sizeof before);
     now.end = end, now.circuit = circuit, now.kind = kind, now.code = code, now.detail = detail;
-    uint64_t answer = tup_step(codes[end], codes[1 - end], table[end], sizeof table[end], circuit, kind, code, detail);
+    uint64_t answer = tup_step(own->own, own->far, table[end], TUP_TABLE_OCTETS(own->circuits), circuit, kind, code, detail);
     seen.events++;
-    if (tup_answer_refusal(answer) != 0) {
-        seen.refused++;
-        if (kind == TUP_SIGNAL)
-            differ("an arriving signal is refused %u", tup_answer_refusal(answer));
-        return;
+    if (tup_answer_refusal(answer) == TUP_ACCEPTED) {
+        expect_others_kept(end, circuit, before);
+        taken(answer);
+    } else {
+        expect_all_kept(end, before);
+        expect_refusal(tup_answer_refusal(answer));
     }
-    seen.indications[tup_answer_indication(answer)]++;
-    if (kind == TUP_COMMAND && code == TUP_RESTART) {
-        seen.lost += way[0][circuit].count + way[1][circuit].count;
-        way[0][circuit].count = way[1][circuit].count = 0;
-    }
-    send(end, circuit, tup_answer_first(answer), detail);
-    send(end, circuit, tup_answer_second(answer), detail);
+    if (compared(circuit) && on_way[circuit] == 0)
+        agree(circuit);
 }
 
 static void expect_sense(unsigned end, uint32_t circuit, uint32_t heading)
 {
-    uint32_t state = tup_record_state(table[end], circuit);
-    seen.in_seized += state == TUP_OUT_SEIZED;
-    if (is_nonsense(state, heading))
-        differ("heading %02x arrives at end %u before address complete", heading, end);
+    if (!compared(circuit))
+        return;
+    seen.in_seized += state_at(end, circuit) == TUP_OUT_SEIZED;
+    if (is_nonsense(state_at(end, circuit), heading))
+        differ("heading %02x arrives at end %u on circuit %u before address complete", heading, end, circuit);
 }
 
-/* Takes the oldest octets on their way to this end, reads them, and gives the signal to the circuit that they name. */
-static void arrive(unsigned end, uint32_t circuit)
+/* Takes the oldest octets on their way to this end and reads them. What can be read is an event on the circuit that they name,
+   and what is refused is dropped. */
+static void arrive(unsigned end)
 {
-    struct queue *queue = &way[1 - end][circuit];
-    const struct message *message = &queue->at[queue->first];
-    uint8_t fields[TUP_MESSAGE_OCTETS];
-    uint32_t refusal = tup_read(codes[end], codes[1 - end], CIRCUITS, message->octets, message->len, fields, sizeof fields);
-    if (refusal != 0)
-        differ("octets that were written are refused %u", refusal);
-    if (tup_message_circuit(fields) != circuit)
-        differ("the circuit read is %u", tup_message_circuit(fields));
-    queue->first = (queue->first + 1) % QUEUE;
-    queue->count--;
-    expect_sense(end, circuit, fields[TUP_MESSAGE_HEADING]);
-    event(end, circuit, TUP_SIGNAL, fields[TUP_MESSAGE_HEADING], fields[TUP_MESSAGE_ACM]);
+    const struct group *own = &group[end];
+    struct message message = take(1 - end);
+    uint8_t fields[TUP_MESSAGE_OCTETS], before[sizeof table[0]];
+    memcpy(before, table[end], sizeof before);
+    uint32_t refusal = tup_read(own->own, own->far, own->circuits, message.octets, message.len, fields, sizeof fields);
+    if (refusal != message.refusal)
+        differ("octets that arrive at end %u are refused %u and should be %u", end, refusal, message.refusal);
+    if (refusal != TUP_ACCEPTED) {
+        expect_all_kept(end, before);
+        seen.dropped[refusal]++;
+        return;
+    }
+    if (tup_message_circuit(fields) != message.about)
+        differ("the circuit read is %u and should be %u", tup_message_circuit(fields), message.about);
+    expect_sense(end, message.about, fields[TUP_MESSAGE_HEADING]);
+    event(end, message.about, TUP_SIGNAL, fields[TUP_MESSAGE_HEADING], fields[TUP_MESSAGE_ACM]);
 }
+
+/* Tables to begin with. */
+
+static void set_record(unsigned end, uint32_t circuit, uint32_t state, uint32_t flags)
+{
+    uint8_t *record = table[end] + TUP_RECORD_AT(circuit);
+    record[TUP_RECORD_STATE] = (uint8_t)state;
+    record[TUP_RECORD_FLAGS] = (uint8_t)flags;
+}
+
+/* The legal records, by number: eight sums of flags in each of the states 0 to 11, and the first two of these in state 12. */
+static void set_legal(unsigned end, uint32_t circuit, unsigned number)
+{
+    static const uint8_t sums[] = {0, 2, 1, 3, 5, 7, 8, 10};
+    set_record(end, circuit, number / 8, sums[number % 8]);
+}
+
+/* Any ranks, also above the counter, and a counter that this run does not fill. */
+static void set_ranks(unsigned end)
+{
+    put_eight(table[end], draw64() >> 1);
+    for (uint32_t circuit = 0; circuit < group[end].circuits; circuit++)
+        put_eight(table[end] + TUP_RECORD_AT(circuit) + TUP_RECORD_RANK, draw64());
+    seen.set_anew++;
+}
+
+static void set_groups(uint32_t code, uint32_t other, uint32_t circuits, uint32_t others)
+{
+    group[0] = (struct group){code, other, circuits};
+    group[1] = (struct group){other, code, others};
+}
+
+static void clear_link(void)
+{
+    memset(way, 0, sizeof way);
+    memset(on_way, 0, sizeof on_way);
+}
+
+/* The circuit set aside has any octets at one time, and at another a legal record, so that more happens there. So has a circuit
+   that the other end has not. */
+static void set_first_record(unsigned end, uint32_t circuit, int from_any)
+{
+    if (circuit == aside && chance(2))
+        set_record(end, circuit, draw(256), draw(256));
+    else if (!compared(circuit) || from_any)
+        set_legal(end, circuit, draw(LEGAL));
+    else
+        set_record(end, circuit, TUP_IDLE, 0);
+}
+
+/* Two exchanges anew, with nothing on its way: idle, or with any legal records and a restart to come on every circuit. */
+static void begin_episode(int from_any)
+{
+    uint32_t code = draw(CODES), other = (code + 1 + draw(CODES - 1)) % CODES;
+    uint32_t circuits = LEAST + draw(MOST - LEAST + 1), others = LEAST + draw(MOST - LEAST + 1);
+    set_groups(code, other, circuits, others);
+    aside = draw(circuits < others ? circuits : others);
+    clear_link();
+    for (unsigned end = 0; end < 2; end++) {
+        pattern(table[end], sizeof table[end]);
+        set_ranks(end);
+        for (uint32_t circuit = 0; circuit < group[end].circuits; circuit++)
+            set_first_record(end, circuit, from_any);
+    }
+    for (uint32_t circuit = 0; circuit < MOST; circuit++)
+        to_be_restarted[circuit] = from_any && compared(circuit);
+    memcpy(at_first, table, sizeof table);
+    seen.from_idle += !from_any;
+    seen.from_any += from_any != 0;
+}
+
+/* The run at random. */
 
 static void give_command(unsigned end, uint32_t circuit)
 {
@@ -132,64 +447,125 @@ static void give_command(unsigned end, uint32_t circuit)
     event(end, circuit, TUP_COMMAND, command, detail);
 }
 
-/* Any ranks, also above the counter, and a counter that this run does not fill. */
-static void set_ranks(uint8_t *of_end)
+static void host_event(unsigned end, uint32_t circuit)
 {
-    put_eight(of_end, draw64() >> 1);
-    for (uint32_t circuit = 0; circuit < CIRCUITS; circuit++)
-        put_eight(of_end + TUP_RECORD_AT(circuit) + TUP_RECORD_RANK, draw64());
-    seen.set_anew++;
-}
-
-/* Demand 3, where nothing is on its way and neither end awaits release-guard or reset. */
-static void agree(uint32_t circuit)
-{
-    uint32_t states[2], flags[2];
-    for (unsigned end = 0; end < 2; end++) {
-        states[end] = tup_record_state(table[end], circuit);
-        flags[end] = tup_record_flags(table[end], circuit);
-        if (states[end] == TUP_AWAITING_RELEASE_GUARD || states[end] == TUP_AWAITING_RESET)
-            return;
-    }
-    if (!stages_agree(states[0], states[1]))
-        differ("at a quiet moment the two states do not agree");
-    for (unsigned end = 0; end < 2; end++)
-        if (!(flags[end] & TUP_FAR_BLOCK) != !(flags[1 - end] & TUP_OWN_BLOCK))
-            differ("at a quiet moment the far-block mark of end %u is not the other's own block", end);
-    seen.quiet++;
-    seen.apart[states[0]][states[1]]++;
-    seen.marks[(flags[0] & TUP_OWN_BLOCK) != 0][(flags[1] & TUP_OWN_BLOCK) != 0]++;
+    uint32_t choice = draw(16);
+    if (to_be_restarted[circuit]) {
+        to_be_restarted[circuit] = 0;
+        seen.restarted_first++;
+        event(end, circuit, TUP_COMMAND, TUP_RESTART, 0);
+    } else if (choice == 0 && on_way[circuit] == 0)
+        event(end, circuit, TUP_TIMER, TUP_TIMER_REPEAT + draw(3), 0);
+    else if (choice == 1 && chance(4))
+        event(end, circuit, TUP_TIMER, TUP_TIMER_ADDRESS + draw(3), 0);
+    else
+        give_command(end, circuit);
 }
 
 /* The link is quick at one time and slow at another, so that queues of all lengths occur. */
 static uint32_t pace(void)
 {
-    static uint32_t now_at = 11;
+    static uint32_t now_at = 20;
     if (chance(1000))
-        now_at = 2 + draw(12);
+        now_at = 2 + draw(40);
     return now_at;
 }
 
-static void one_event(void)
+static void anything(void)
 {
-    uint32_t circuit = draw(CIRCUITS), choice = draw(16);
     unsigned end = draw(2);
-    unsigned waiting = way[1 - end][circuit].count;
-    if (waiting > 0 && (choice < pace() || waiting > QUEUE / 2))
-        arrive(end, circuit);
-    else if (way[end][circuit].count > QUEUE / 2)
-        arrive(1 - end, circuit);
-    else if (choice == 15 && silent(circuit))
-        event(end, circuit, TUP_TIMER, TUP_TIMER_REPEAT + draw(3), 0);
-    else if (choice == 14 && chance(4))
-        event(end, circuit, TUP_TIMER, TUP_TIMER_ADDRESS + draw(3), 0);
+    unsigned waiting = way[1 - end].count;
+    if (waiting > 0 && (draw(64) < pace() || waiting > MANY))
+        arrive(end);
+    else if (way[end].count > MANY)
+        arrive(1 - end);
+    else if (chance(20))
+        put_foreign(end);
     else
-        give_command(end, circuit);
-    if (silent(circuit))
-        agree(circuit);
+        host_event(end, draw(group[end].circuits));
     if (chance(5000))
-        set_ranks(table[draw(2)]);
+        set_ranks(draw(2));
 }
+
+static void episodes(unsigned long events)
+{
+    while (seen.events < events) {
+        unsigned long until = seen.events + EPISODE;
+        begin_episode((int)draw(2));
+        while (seen.events < until)
+            anything();
+    }
+}
+
+/* Every two legal records. */
+
+static void deliver_all(void)
+{
+    while (way[0].count + way[1].count > 0) {
+        unsigned end = draw(2);
+        if (way[1 - end].count > 0)
+            arrive(end);
+    }
+}
+
+/* The end that has something to repeat, awaiting release-guard rather than reset; 2 if there is none. */
+static unsigned repeating_end(void)
+{
+    static const uint32_t awaiting[] = {TUP_AWAITING_RELEASE_GUARD, TUP_AWAITING_RESET};
+    for (unsigned i = 0; i < 2; i++)
+        for (unsigned end = 0; end < 2; end++)
+            if (state_at(end, 0) == awaiting[i])
+                return end;
+    return 2;
+}
+
+/* Circuit 0, controlled by end 0, with these records and nothing on its way; one end restarts it. Once all has arrived, both are
+   idle, or are so after timer 4 has run out at one end. Gives whether that was needed. */
+static int settle(unsigned record, unsigned other, unsigned restarting)
+{
+    clear_link();
+    set_legal(0, 0, record);
+    set_legal(1, 0, other);
+    memcpy(at_first, table, sizeof table);
+    event(restarting, 0, TUP_COMMAND, TUP_RESTART, 0);
+    deliver_all();
+    unsigned end = repeating_end();
+    if (end < 2) {
+        event(end, 0, TUP_TIMER, TUP_TIMER_REPEAT, 0);
+        deliver_all();
+    }
+    if (state_at(0, 0) != TUP_IDLE || state_at(1, 0) != TUP_IDLE)
+        differ("restarted by end %u, and not idle in the end", restarting);
+    agree(0);
+    return end < 2;
+}
+
+static int awaits(uint32_t state)
+{
+    return state == TUP_AWAITING_RELEASE_GUARD || state == TUP_AWAITING_RESET;
+}
+
+/* Timer 4 is needed exactly where the end that does not restart was itself awaiting an answer. */
+static void every_two_records(void)
+{
+    unsigned long pairs = 0, at_once = 0;
+    set_groups(2, 1, 1, 1);
+    aside = NONE;
+    for (unsigned restarting = 0; restarting < 2; restarting++)
+        for (unsigned pair = 0; pair < LEGAL * LEGAL; pair++) {
+            int later = 0;
+            for (unsigned order = 0; order < ORDERS; order++)
+                later += settle(pair / LEGAL, pair % LEGAL, restarting);
+            if (later != (awaits(tup_record_state(at_first[1 - restarting], 0)) ? ORDERS : 0))
+                differ("restarted by end %u, timer 4 was needed %d times out of %d", restarting, later, ORDERS);
+            pairs++;
+            at_once += later == 0;
+        }
+    covered("restarted with any two legal records, by either end, in %d orders: %lu pairs, %lu agreed at once, %lu after timer 4",
+            ORDERS, pairs, at_once, pairs - at_once);
+}
+
+/* What was seen. */
 
 static void expect_seen(unsigned long count, const char *what, unsigned number)
 {
@@ -197,12 +573,11 @@ static void expect_seen(unsigned long count, const char *what, unsigned number)
         differ("never seen: %s %u", what, number);
 }
 
-/* A run that never saw a call, a block or a crossing would prove nothing. */
-static void expect_all_seen(void)
+static void quiet_moments_seen(void)
 {
     for (unsigned i = 0; i < STAGES; i++) {
         unsigned outgoing = stages[i][0], incoming = stages[i][1];
-        expect_seen(seen.apart[outgoing][incoming], "the controlling end of circuit 0 outgoing in state", outgoing);
+        expect_seen(seen.apart[outgoing][incoming], "the controlling end outgoing in state", outgoing);
         expect_seen(seen.apart[incoming][outgoing], "the other end outgoing in state", outgoing);
         covered("quiet with states %u and %u: %lu, %lu the other way", outgoing, incoming, seen.apart[outgoing][incoming],
                 seen.apart[incoming][outgoing]);
@@ -211,26 +586,58 @@ static void expect_all_seen(void)
         expect_seen(seen.marks[i / 2][i % 2], "blocked at the ends, as bits,", i);
     covered("quiet with no block: %lu, a block at one end: %lu and %lu, at both: %lu", seen.marks[0][0], seen.marks[1][0],
             seen.marks[0][1], seen.marks[1][1]);
-    for (unsigned i = 0; i <= 10; i++)
+    expect_seen(seen.guard_opposite_reset, "quiet, awaiting release-guard opposite reset", 0);
+    expect_seen(seen.amid_others, "quiet with others' messages on their way", 0);
+    covered("quiet with others' messages on their way: %lu, at a quiet moment %.1f of them, at most %lu", seen.amid_others,
+            (double)seen.others / (double)seen.quiet, seen.most_others);
+}
+
+static void signals_seen(void)
+{
+    for (unsigned i = 0; i < INDICATIONS; i++)
         expect_seen(seen.indications[i], "indication", i);
     for (unsigned i = 0; i < HEADINGS; i++)
         expect_seen(seen.headings[headings[i]], "sent, heading", headings[i]);
+    for (unsigned i = TUP_TIMER_ADDRESS; i < TIMERS; i++)
+        expect_seen(seen.timers[i], "ran out, timer", i);
     expect_seen(seen.in_seized, "arrived before address complete", 0);
-    expect_seen(seen.lost, "signals lost by a restart", 0);
-    expect_seen(seen.set_anew, "ranks set by a host", 0);
-    covered("dual seizures yielded: %lu, signals lost by restarts: %lu, longest queue: %lu",
-            seen.indications[TUP_IND_INCOMING_CALL_TRY_OWN_ELSEWHERE], seen.lost, seen.longest);
+    covered("%lu signals arrived before address complete, none of them nonsense", seen.in_seized);
+    expect_seen(seen.lost, "messages lost by a restart", 0);
+    expect_seen(seen.restarts_amid_others, "messages lost by a restart from among others", 0);
+    covered("dual seizures yielded: %lu, messages lost by restarts: %lu, %lu times from among others, most on their way: %lu",
+            seen.indications[TUP_IND_INCOMING_CALL_TRY_OWN_ELSEWHERE], seen.lost, seen.restarts_amid_others, seen.longest);
+}
+
+static void foreign_seen(void)
+{
+    static const uint8_t refusals[] = {TUP_NO_SUCH_CIRCUIT, TUP_WRONG_LENGTH, TUP_WRONG_LABEL, TUP_NO_SUCH_HEADING,
+                                       TUP_WRONG_ADDRESS};
+    unsigned long dropped = 0;
+    for (unsigned i = 0; i < FOREIGN; i++)
+        expect_seen(seen.foreign[i], "foreign octets, kind", i);
+    for (unsigned i = 0; i < sizeof refusals; i++)
+        expect_seen(seen.dropped[refusals[i]], "dropped by the reader, refused", refusals[i]);
+    for (unsigned i = TUP_WRONG_LENGTH; i < REFUSALS; i++)
+        dropped += seen.dropped[i];
+    covered("foreign octets dropped: %lu, foreign messages to the circuit set aside: %lu, about a circuit that one end has: %lu",
+            dropped, seen.foreign[ON_CIRCUIT_ASIDE], seen.dropped[TUP_NO_SUCH_CIRCUIT]);
 }
 
 int main(void)
 {
-    unsigned long events = long_run() ? 100000000 : 2000000;
     harness_begin("ends", describe);
-    while (seen.events < events)
-        one_event();
-    covered("%lu events, %lu of them refused, %lu quiet moments, all agreed; ranks set by a host %lu times", seen.events,
-            seen.refused, seen.quiet, seen.set_anew);
-    covered("%lu signals arrived before address complete, none of them nonsense", seen.in_seized);
-    expect_all_seen();
+    every_two_records();
+    memset(&seen, 0, sizeof seen);
+    episodes(long_run() ? 100000000 : 2000000);
+    covered("%lu events, %lu of them refused, %lu for a bad record on the circuit set aside; %lu quiet moments, all agreed",
+            seen.events, seen.refused, seen.bad_records, seen.quiet);
+    covered("%lu episodes from idle, %lu from any legal records with %lu restarts; counter and ranks set by a host %lu times",
+            seen.from_idle, seen.from_any, seen.restarted_first, seen.set_anew);
+    expect_seen(seen.bad_records, "a bad record on the circuit set aside", 0);
+    expect_seen(seen.from_idle, "an episode from idle", 0);
+    expect_seen(seen.restarted_first, "a restart from any legal records", 0);
+    quiet_moments_seen();
+    signals_seen();
+    foreign_seen();
     return 0;
 }

@@ -2,15 +2,18 @@
 -- Assumes nothing.
 use mathlib.Core.Bool.{Bool, true, false, _&&_}
 use mathlib.Core.List.{List, [], _∷_}
-use Prim.Native.Nat.{ℕ, zero, suc}
+use Prim.Native.Nat.{ℕ, zero, suc, _<_}
 use lib.Dec.{T, leb}
 use lib.ListN.{length}
 use Rattle.circuit.specs.Rows.{first}
+use Rattle.circuit.specs.Every.{eachBelow}
+use Rattle.circuit.proofs.Every.{eachBool, atBool, atBelow}
 use Rattle.step.specs.Step.{step, stepFound}
+use Rattle.ends.specs.Machine.{When.losingAll}
 use Rattle.ends.specs.Ends.{does}
-use Rattle.ends.proofs.Moves.{Table, columns, look}
-use Rattle.ends.proofs.Words.{Half, Half.half, restOf}
-use Rattle.ends.proofs.Rooms.{sound, Need, Need.room, Need.impossible, Room, inRole, follows, listed, closedAt, closed, firstRoom}
+use Rattle.ends.proofs.Moves.{Table, causeOf, columns, look}
+use Rattle.ends.proofs.Words.{Half, Half.half, Run.ran, restOf, allIn}
+use Rattle.ends.proofs.Rooms.{sound, over, afresh, meets, Need, Need.room, Need.impossible, Room, inRole, follows, listed, closedAt, closed, firstRoom}
 
 -- rooms to follow, rooms found
 data Search : Type 0 where
@@ -57,3 +60,14 @@ rooms = explore (look (columns true) (columns false)) 200 (search-of (firstRoom 
 pub tested : T (listed rooms firstRoom && closed (look (columns true) (columns false)) rooms)
 unfolding rooms closedAt columns does stepFound step first
 tested = tt
+
+-- and so does a restart, whatever the two states
+abbrev restartsInto : Bool → ℕ → ℕ → Bool
+restartsInto c s t = allIn (meets rooms c) (over (afresh c (half t (ran t []) false)) (look (columns true) (columns false) c s (causeOf losingAll)))
+
+restarts : T (eachBool (λ c. eachBelow 13 (λ s. eachBelow 13 (restartsInto c s))))
+unfolding rooms columns does stepFound step first
+restarts = tt
+
+pub restartLands : (c : Bool) (s t : ℕ) → s < 13 → t < 13 → T (restartsInto c s t)
+restartLands c s t hs ht = atBelow 13 (restartsInto c s) (atBelow 13 (λ s. eachBelow 13 (restartsInto c s)) (atBool (λ c. eachBelow 13 (λ s. eachBelow 13 (restartsInto c s))) restarts c) s hs) t ht

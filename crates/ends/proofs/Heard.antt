@@ -10,13 +10,14 @@ use Rattle.circuit.specs.declared.Signal.the-variants.{Iam, Acm, Anc, Ann, Cbk,
 use Rattle.circuit.specs.Records.{valid}
 use Rattle.circuit.specs.Every.{eachBelow}
 use Rattle.circuit.proofs.Every.{left, right, isTrue, eachBool, atBool, atBelow}
-use Rattle.ends.specs.Ends.{End, Reached, unheard, NextIsHeard, ClaimUnheard}
-use Rattle.ends.proofs.Words.{word, words, heard, mute, quiet, kept, run, runOf, next, Run, Run.ran, Half, Half.half, view, bloFor, allIn, at-has}
+use Rattle.circuit.specs.Groups.{controls}
+use Rattle.ends.specs.Ends.{End, unheard, NextIsHeard, ClaimUnheard}
+use Rattle.ends.proofs.Words.{word, words, heard, mute, quiet, kept, run, runOf, next, Run, Run.ran, Half.half, view, bloFor, allIn, at-has}
 use Rattle.ends.proofs.Events.{isWord, said}
 use Rattle.ends.proofs.Rooms.{agrees, hears}
 use Rattle.ends.proofs.Sound.{sound-here}
 use Rattle.ends.proofs.Explored.{rooms}
-use Rattle.ends.proofs.Standing.{table, shut, stateOf, due, Holds, holds, inEitherRole}
+use Rattle.ends.proofs.Standing.{table, shut, stateOf, due, Stand, Holds, changed, inAnyGroup}
 
 same-unheard : (st : ℕ) (s : Signal) → unheard st s ≡ unheard st (said (word s))
 same-unheard st Iam = refl
@@ -72,21 +73,17 @@ next-heard : (c : Bool) (e : End) → T (valid (e .holds)) → T (hears (view c 
 next-heard c e v h s rest k = rw (same-unheard (stateOf e) s)
     (hears-next c (stateOf e) (word s) (heard rest) (passes-at c (stateOf e) (left (leb (stateOf e) 12) _ v) s) (rw k at h))
 
-all-heard : (x y : End) → Reached true false x y → NextIsHeard x × NextIsHeard y
-all-heard x y r = (next-heard true x (i .blocks .mine) (left (hears X) _ two), next-heard false y (i .blocks .yours) (right (hears X) _ two))
-  where
-    i : Holds x y
-    i = holds r
+-- the hearing of the two ends' room, the controlling end's first
+hearing : (x y : End) → Stand true x y → T (hears (view true (stateOf x) (due x)) && hears (view false (stateOf y) (due y)))
+hearing x y s = right (agrees (view true (stateOf x) (due x)) (view false (stateOf y) (due y))) _
+    (sound-here table rooms shut (view true (stateOf x) (due x), view false (stateOf y) (due y)) s)
 
-    X : Half
-    X = view true (stateOf x) (due x)
-
-    Y : Half
-    Y = view false (stateOf y) (due y)
-
-    two : T (hears X && hears Y)
-    two = right (agrees X Y) _ (sound-here table rooms shut (X, Y) (i .calls))
+pub nextHeard : (c : Bool) (x y : End) → Holds c x y → NextIsHeard x
+nextHeard true x y i = next-heard true x (i .blocks .mine) (left (hears (view true (stateOf x) (due x))) _ (hearing x y (i .calls)))
+nextHeard false x y i = next-heard false x (i .blocks .mine) (right (hears (view true (stateOf y) (due y))) _ (hearing y x (i .calls)))
 
 pub someNeverArrive : ClaimUnheard
 unfolding ClaimUnheard
-someNeverArrive = inEitherRole (λ x y. NextIsHeard x × NextIsHeard y) (λ x y h. (h .1, h .0)) all-heard
+someNeverArrive own far cic different x y r =
+    let i : Holds (controls own far cic) x y = inAnyGroup own far cic different r in
+    (nextHeard (controls own far cic) x y i, nextHeard (not (controls own far cic)) y x (changed (controls own far cic) x y i))

@@ -9,7 +9,8 @@ use Prim.Native.Nat.{ℕ}
 use lib.Dec.{T, eqb}
 use Rattle.circuit.specs.declared.Record.{Record}
 use Rattle.circuit.specs.declared.Signal.{Signal}
-use Rattle.circuit.specs.declared.Event.the-variants.{Arrives}
+use Rattle.circuit.specs.declared.Command.the-variants.{Restart}
+use Rattle.circuit.specs.declared.Event.the-variants.{Arrives, Ordered}
 use Rattle.circuit.specs.declared.Outcome.{Outcome}
 use Rattle.circuit.specs.Records.{valid}
 use Rattle.circuit.specs.Rows.{first}
@@ -18,8 +19,9 @@ use Rattle.circuit.proofs.Every.{left, right, then, eachBool, atBool}
 use Rattle.codes.specs.declared.Found.{Found}
 use Rattle.codes.specs.declared.Found.the-variants.{Is}
 use Rattle.step.specs.Step.{step, stepFound}
-use Rattle.ends.specs.Machine.{inOrder, acted, arrival, When, When.anyTime, When.inSilence, When.losingAll, When.never, whenGiven, silence, emptied, given, Happening, Happening.arrives, Happening.host, turn}
-use Rattle.ends.specs.Ends.{End, Pair, does, seen, endActs, marks}
+use Rattle.ends.specs.Machine.{acted, arrival, When, When.anyTime, When.inSilence, When.losingAll, When.never, whenGiven, silence, given, Happening, Happening.arrives, Happening.host, turn}
+use Rattle.ends.specs.Ends.{End, end, Pair, inOrder, does, seen, endActs, restart, marks}
+use Rattle.ends.proofs.Machine.{allLost}
 use Rattle.ends.proofs.Words.{blo, ubl, rsc, word, heard, heard-more, sameBool}
 use Rattle.ends.proofs.Events.{said, alike, everywhere, atWord, atHost}
 
@@ -174,7 +176,7 @@ module _ (c : Bool) (other : End) where
       keeping m z = keeps r m (eqb (word x) rsc || z) z (marked (r .far) (word x)) (does c r (Is (Arrives (said (word x)))))
 
   -- everything on its way is lost
-  lost : (o : Outcome) → T (valid (other .holds)) → T (eachBool (λ m. clears m o)) → MarksPair (acted (seen o) [] (emptied other))
+  lost : (o : Outcome) → T (valid (other .holds)) → T (eachBool (λ m. clears m o)) → MarksPair (acted (seen o) [] (end (other .holds) []))
   lost o yours test = record {
     there = left (inStep (o .after .own) (told (other .holds .far) (wordsOf o)) false) _ one;
     back = by (other .holds .own) (o .after .far) (resetIn (wordsOf o)) (right (valid (o .after)) _ two);
@@ -204,15 +206,20 @@ module _ (c : Bool) (other : End) where
 
   hosted : (me : End) → Marks me other → (e : Found) (w : When) → T (hostKeepsWhen w (me .holds) (does c (me .holds) e)) → MarksPair (given (endActs c) w e me other)
   hosted me i e anyTime test = plainly me i (does c (me .holds) e) test
-  hosted me i e inSilence test = by (silence me other)
+  hosted me i e inSilence test = by (silence (endActs c .about e) me other)
     where
-      by : (s : Bool) → MarksPair (cond s (acted (endActs c (me .holds) e) (me .coming) other) (me, other))
+      by : (s : Bool) → MarksPair (cond s (acted (seen (does c (me .holds) e)) (me .coming) other) (me, other))
       by true = plainly me i (does c (me .holds) e) test
       by false = i
-  hosted me i e losingAll test = lost (does c (me .holds) e) (i .yours) test
+  hosted me i e losingAll test = rw (allLost (me .coming), allLost (other .coming)) (lost (does c (me .holds) e) (i .yours) test)
   hosted me i e never test = i
 
-  pub turned : (me : End) → Marks me other → (h : Happening) → MarksPair (turn (endActs c) h me other)
+  -- a restart loses everything, so that it asks nothing of what was before
+  pub restarted : (me : End) → T (valid (me .holds)) → T (valid (other .holds)) → MarksPair (turn (endActs c) restart me other)
+  restarted me mine yours = rw (allLost (me .coming), allLost (other .coming))
+      (lost (does c (me .holds) (Is (Ordered Restart))) yours (atHost wordKeeps hostKeeps kept-in-step c (me .holds) mine (λ x. tt) (Is (Ordered Restart))))
+
+  pub turned : (me : End) → Marks me other → (h : Happening Found) → MarksPair (turn (endActs c) h me other)
   turned me i arrives = arrived (me .holds) (me .coming) i
   turned me i (host e) = hosted me i e (whenGiven e) (atHost wordKeeps hostKeeps kept-in-step c (me .holds) (i .mine) (λ x. tt) e)
 

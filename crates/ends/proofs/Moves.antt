@@ -17,8 +17,8 @@ use Rattle.circuit.proofs.Every.{left, right}
 use Rattle.codes.specs.declared.Found.{Found}
 use Rattle.codes.specs.declared.Found.the-variants.{Is}
 use Rattle.step.specs.Step.{step, stepFound}
-use Rattle.ends.specs.Machine.{inOrder, When, When.anyTime, When.inSilence, When.losingAll, When.never, whenGiven}
-use Rattle.ends.specs.Ends.{does}
+use Rattle.ends.specs.Machine.{When, When.anyTime, When.inSilence, When.losingAll, When.never, whenGiven}
+use Rattle.ends.specs.Ends.{inOrder, does}
 use Rattle.ends.proofs.Words.{word, heard, member, sameList, same-list}
 use Rattle.ends.proofs.Events.{said, alike, hostEvents, everywhere, atWord, atHost}
 

@@ -8,7 +8,7 @@ use lib.Dec.{T, eqb, eqb→eq}
 use borrow.Author.Tests.{ne-eqb}
 use Rattle.circuit.specs.declared.Signal.the-variants.{Rlg}
 use Rattle.circuit.proofs.Every.{left, right}
-use Rattle.ends.specs.Ends.{sameStage, awaits, marks, unheard}
+use Rattle.ends.specs.Ends.{sameStage, awaitsReset, marks, unheard}
 
 byCases : {X : Type 0} (a b : Bool) → (T a → X) → (T b → X) → T (a || b) → X
 byCases true b f g t = f tt
@@ -44,9 +44,9 @@ atStagesEitherWay P idle seized complete free answered cleared p q =
     (λ t. inl (atStages P idle seized complete free answered cleared p q t))
     (λ t. inr (atStages P idle seized complete free answered cleared q p t))
 
--- an end awaits only in 5 and 12
-pub neitherAwaits : (s : ℕ) → (s ≡ 5 → ⊥) → (s ≡ 12 → ⊥) → T (not (awaits s))
-neitherAwaits s h k = rw (ne-eqb s 5 h, ne-eqb s 12 k) tt
+-- an end awaits reset only in 12
+pub notAwaiting : (s : ℕ) → (s ≡ 12 → ⊥) → T (not (awaitsReset s))
+notAwaiting s h = rw (ne-eqb s 12 h) tt
 
 pub marksEqual : (far own : Bool) → T (marks far own) → far ≡ own
 marksEqual true true t = refl

@@ -6,7 +6,7 @@ use mathlib.Core.List.{List, [], _∷_, _++_}
 use Prim.Native.Nat.{ℕ}
 use lib.Dec.{eqb}
 use Rattle.ends.specs.Machine.{When.anyTime, When.inSilence, When.losingAll}
-use Rattle.ends.specs.Ends.{sameStage, awaits, unheard}
+use Rattle.ends.specs.Ends.{sameStage, awaitsReset, unheard}
 use Rattle.ends.proofs.Words.{words, blo, mute, quiet, next, Run, Run.ran, run, restOf, Half, Half.half, sameHalf, joinAll, endOf, reach, outgoing, allIn, member, has, family, absorbs}
 use Rattle.ends.proofs.Events.{said}
 use Rattle.ends.proofs.Moves.{Move, Move.to, Table, causeOf}
@@ -77,10 +77,10 @@ follows m c (half s r b) y = byWords m c y s r b ++ (byHost m c y s r b ++ (byLo
 
 -- what a room must fulfil by itself
 
--- with nothing on its way and neither end in 5 or 12, the same stage
+-- with nothing on its way and neither end in 12, the same stage
 abbrev pub agrees : Half → Half → Bool
 agrees (half s r b) (half t q d) = not (nothingComes (half s r b) && nothingComes (half t q d))
-    || (awaits s || awaits t || (sameStage s t || sameStage t s))
+    || (awaitsReset s || awaitsReset t || (sameStage s t || sameStage t s))
 
 -- what arrives next is no signal that is never heard
 abbrev pub hears : Half → Bool

@@ -12,7 +12,7 @@ use Rattle.ends.proofs.Moves.{Move, Move.to, Table, among, sameMove, sa
 use Rattle.ends.proofs.Rooms.{Room, Need, Need.room, Need.impossible, over, comes, goes, glides, takesRest, takes, afresh, byWords, byHost, byLoss, bySilence, follows, sound, sameRoom, listed, inRole, meets, closedAt, closed}
 
 -- a list of rooms has what a list of needs asks for
-abbrev Meets : List Room → Bool → List Need → Type 0
+abbrev pub Meets : List Room → Bool → List Need → Type 0
 Meets l c n = T (allIn (meets l c) n)
 
 -- the two ends stand in a room of the list: the one where something happens, of role c, and the other
@@ -185,6 +185,14 @@ in-front l r h c (room me you ∷ n) t =
     by true e g = rw (e tt) h
     by false e g = g
 
+-- a move with both queues empty
+fresh : (l : List Room) (c : Bool) (t : ℕ) (q : Run) (d : Bool) (mv : Move) → Meets l c (afresh c (half t q d) mv) → Lands l c [] t [] mv
+fresh l c t q d (to n u) k = arrived l c [] t [] n u (front l c (view c n []) (joinAll (not c) (view (not c) t []) u) true k)
+
+pub afresh-lands : (l : List Room) (c : Bool) (t : ℕ) (q : Run) (d : Bool) (k : List Move) → Meets l c (over (afresh c (half t q d)) k)
+    → (mv : Move) → T (among mv k) → Lands l c [] t [] mv
+afresh-lands l c t q d k h mv i = fresh l c t q d mv (at-move l c (afresh c (half t q d)) mv k i h)
+
 -- two ends that stand in a room of a closed list
 module _ (m : Table) (l : List Room) (shut : T (closed m l)) where
   at-room : (r : Room) → T (listed l r) → T (closedAt m l r)
@@ -227,17 +235,13 @@ module _ (m : Table) (l : List Room) (shut : T (closed m l)) where
     by-host mv i = went l c w t v s b true (λ z. refl) (λ z. refl) mv
         (at-move l c (goes c o s r b true) mv (m c s (causeOf anyTime)) i (meets-left l c (byHost m c o s r b) _ others-met))
 
-    fresh : (mv : Move) → Meets l c (afresh c o mv) → Lands l c [] t [] mv
-    fresh (to n u) k = arrived l c [] t [] n u (front l c (view c n []) (joinAll (not c) (view (not c) t []) u) true k)
-
     -- one that loses all that is on its way
     pub by-loss : (mv : Move) → T (among mv (m c s (causeOf losingAll))) → Lands l c [] t [] mv
-    by-loss mv i = fresh mv (at-move l c (afresh c o) mv (m c s (causeOf losingAll)) i (meets-left l c (byLoss m c o s r b) _ fresh-met))
+    by-loss = afresh-lands l c t (runOf (not c) t v) (bloFor t v) (m c s (causeOf losingAll)) (meets-left l c (byLoss m c o s r b) _ fresh-met)
 
   -- one in silence
   pub by-silence : (c : Bool) (s t : ℕ) → Inside l c s [] t [] → (mv : Move) → T (among mv (m c s (causeOf inSilence))) → Lands l c [] t [] mv
-  by-silence c s t here mv i = fresh c s [] t [] here mv (at-move l c (afresh c Y) mv (m c s (causeOf inSilence)) i
-      (rw (isTrue (eqb s s) (eqb-refl s), isTrue (eqb t t) (eqb-refl t)) at silent))
+  by-silence c s t here = afresh-lands l c t (ran t []) false (m c s (causeOf inSilence)) (rw (isTrue (eqb s s) (eqb-refl s), isTrue (eqb t t) (eqb-refl t)) at silent)
     where
       Y : Half
       Y = view (not c) t []

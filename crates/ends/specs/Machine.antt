@@ -1,38 +1,30 @@
--- Two parties that send each other signals, said once for two ends of a circuit and for two exchanges: what can happen to the pair, by the rules of
--- demand 3: signals in order, none lost but by a restart, timers 4 to 6 only in silence. What a party holds, a circuit's record or a group's table,
--- and what an event does to it are parameters.
+-- Two parties that send each other messages, said once, for two ends of a circuit and for two exchanges over a link: what can happen to the pair, by
+-- the rules of demand 3: messages in order, none lost but by a restart, timers 4 to 6 only in silence. What a party holds, what a message is, what
+-- the host gives and what a party does with either are parameters.
 -- Assumes nothing.
-use mathlib.Core.Bool.{Bool, true, false, cond, _&&_}
+use mathlib.Core.Bool.{Bool, true, false, cond, not, _&&_}
 use mathlib.Core.List.{List, [], _∷_, _++_}
-use Rattle.circuit.specs.declared.Signal.{Signal}
 use Rattle.circuit.specs.declared.Command.{Command}
 use Rattle.circuit.specs.declared.Command.the-variants.{Seize, Release, AddressComplete, Answer, ClearBack, ReAnswer, FailCall, Block, Unblock, Restart}
 use Rattle.circuit.specs.declared.Timer.{Timer}
 use Rattle.circuit.specs.declared.Timer.the-variants.{AddressWait, AnswerWait, IncomingHangUp, Repeat, OneMinute, BlockRepeat}
 use Rattle.circuit.specs.declared.Event.the-variants.{Arrives, Ordered, RunsOut}
-use Rattle.circuit.specs.declared.Sends.{Sends}
-use Rattle.circuit.specs.declared.Sends.the-variants.{Nothing, One, Two}
 use Rattle.codes.specs.declared.Found.{Found}
 use Rattle.codes.specs.declared.Found.the-variants.{Is, Missing}
 
--- what a party holds, and the signals on their way to it in a queue of any length, the oldest first
-pub record Party (H : Type 0) : Type 0 where
+-- what a party holds, and the messages on their way to it in a queue of any length, the oldest first
+pub record Party (H M : Type 0) : Type 0 where
   pub holds : H
-  pub coming : List Signal
+  pub coming : List M
 
 -- the party where something happened, and the other
-abbrev pub Both : Type 0 → Type 0
-Both H = Party H × Party H
+abbrev pub Both : Type 0 → Type 0 → Type 0
+Both H M = Party H M × Party H M
 
--- what an event does: what the party holds after it, and what it sends
-pub record Effect (H : Type 0) : Type 0 where
+-- what a party does: what it holds then, and what it sends, in order
+pub record Effect (H M : Type 0) : Type 0 where
   pub after : H
-  pub sends : Sends
-
-abbrev pub inOrder : Sends → List Signal
-inOrder Nothing = []
-inOrder (One s) = s ∷ []
-inOrder (Two s t) = s ∷ t ∷ []
+  pub sends : List M
 
 -- when the host can let an event happen, and with what loss
 pub data When : Type 0 where
@@ -67,39 +59,59 @@ whenGiven (Is (Ordered k)) = whenOrdered k
 whenGiven (Is (RunsOut t)) = whenRunsOut t
 whenGiven Missing = anyTime
 
-abbrev pub empty : List Signal → Bool
-empty [] = true
-empty (s ∷ rest) = false
+-- What a party does that holds something: with a message that arrives, unless it is stuck and stays where it is; and with what its host gives, when
+-- the host can give it, where silence and loss are of the messages that it is about.
+pub record Acts (H M E : Type 0) : Type 0 where
+  pub stuck : H → M → Bool
+  pub takes : H → M → Effect H M
+  pub when : H → E → When
+  pub about : E → M → Bool
+  pub gives : H → E → Effect H M
 
--- What can happen at a party. The host's event may come by any numbers: it is then `eventOf kind code detail` of the crate `codes`.
-pub data Happening : Type 0 where
-  arrives : Happening
-  host : Found → Happening
+-- none of a queue's messages is such; the queue without those that are
+abbrev pub none : {M : Type 0} → (M → Bool) → List M → Bool
+none such [] = true
+none such (m ∷ rest) = not (such m) && none such rest
 
-module _ {H : Type 0} where
-  abbrev pub silence : (me other : Party H) → Bool
-  silence me other = empty (me .coming) && empty (other .coming)
+abbrev pub without : {M : Type 0} → (M → Bool) → List M → List M
+without such [] = []
+without such (m ∷ rest) = cond (such m) (without such rest) (m ∷ without such rest)
 
-  abbrev pub emptied : Party H → Party H
-  emptied p = record { holds = p .holds; coming = [] }
+-- what can happen at a party
+pub data Happening (E : Type 0) : Type 0 where
+  arrives : Happening E
+  host : E → Happening E
+
+module _ {H M : Type 0} where
+  abbrev pub silence : (M → Bool) → (me other : Party H M) → Bool
+  silence such me other = none such (me .coming) && none such (other .coming)
 
   -- `rest` is still on its way to the party that acted, and what it sends comes last in the other's queue
-  abbrev pub acted : Effect H → (rest : List Signal) → (other : Party H) → Both H
-  acted o rest other = (record { holds = o .after; coming = rest }, record { holds = other .holds; coming = other .coming ++ inOrder (o .sends) })
+  abbrev pub acted : Effect H M → (rest : List M) → (other : Party H M) → Both H M
+  acted o rest other = (record { holds = o .after; coming = rest }, record { holds = other .holds; coming = other .coming ++ o .sends })
 
-  -- what an event does to a party that holds something
-  module _ (does : H → Found → Effect H) where
-    -- the signal at the head of the queue arrives
-    abbrev pub arrival : H → List Signal → (other : Party H) → Both H
-    arrival r [] other = (record { holds = r; coming = [] }, other)
-    arrival r (s ∷ rest) other = acted (does r (Is (Arrives s))) rest other
+  -- messages are lost on their way to a party
+  abbrev pub spared : (M → Bool) → Party H M → Party H M
+  spared such p = record { holds = p .holds; coming = without such (p .coming) }
 
-    abbrev pub given : When → Found → (me other : Party H) → Both H
-    given anyTime e me other = acted (does (me .holds) e) (me .coming) other
-    given inSilence e me other = cond (silence me other) (acted (does (me .holds) e) (me .coming) other) (me, other)
-    given losingAll e me other = acted (does (me .holds) e) [] (emptied other)
+  module _ {E : Type 0} (a : Acts H M E) where
+    -- the message at the head of the queue arrives
+    abbrev pub arrival : H → List M → (other : Party H M) → Both H M
+    arrival h [] other = (record { holds = h; coming = [] }, other)
+    arrival h (m ∷ rest) other = cond (a .stuck h m) (record { holds = h; coming = m ∷ rest }, other) (acted (a .takes h m) rest other)
+
+    abbrev pub given : When → E → (me other : Party H M) → Both H M
+    given anyTime e me other = acted (a .gives (me .holds) e) (me .coming) other
+    given inSilence e me other = cond (silence (a .about e) me other) (acted (a .gives (me .holds) e) (me .coming) other) (me, other)
+    given losingAll e me other = acted (a .gives (me .holds) e) (without (a .about e) (me .coming)) (spared (a .about e) other)
     given never e me other = (me, other)
 
-    abbrev pub turn : Happening → (me other : Party H) → Both H
+    abbrev pub turn : Happening E → (me other : Party H M) → Both H M
     turn arrives me other = arrival (me .holds) (me .coming) other
-    turn (host e) me other = given (whenGiven e) e me other
+    turn (host e) me other = given (a .when (me .holds) e) e me other
+
+-- the pairs that are reached from those where a run may start; a, b: what the first party does, and the second
+pub data Reached {H M E : Type 0} (Start : Party H M → Party H M → Type 0) (a b : Acts H M E) : Party H M → Party H M → Type 0 where
+  start : {x y : Party H M} → Start x y → Reached Start a b x y
+  atFirst : {x y : Party H M} → Reached Start a b x y → (h : Happening E) → Reached Start a b (turn a h x y .0) (turn a h x y .1)
+  atSecond : {x y : Party H M} → Reached Start a b x y → (h : Happening E) → Reached Start a b (turn b h y x .1) (turn b h y x .0)
