@@ -1,32 +1,34 @@
-/* Two exchanges over one link: several circuits, and one queue of octets a direction, in which their messages are mixed. Both ends
-   are run by tup_step; every signal is written by tup_write, and the oldest octets on their way are read by tup_read and given to
-   the circuit that they name. The hosts do anything at any time, as far as demand 3 allows (docs/RULES.md): a restart loses the
-   messages of its own circuit, in both directions, and timers 4 to 6 wait until none of those is on its way.
-   Whenever none of a circuit's messages is on its way, whatever the link carries of others, its ends must agree in states and
-   blocks unless one awaits reset; so an end may rest awaiting release-guard only opposite one that awaits reset. And no nonsense
-   may ever arrive where a call awaits address complete.
+/* Two exchanges over one link: several circuits, and one queue of octets a direction, in which the messages of all are mixed. Both
+   ends are run by tup_step; every signal is written by tup_write, and the oldest octets on their way are read by tup_read and given
+   to the circuit that they name. The hosts do anything at any time, as far as demand 3 allows it (docs/RULES.md): a restart loses
+   the messages of its own circuit, in both directions, and timers 4 to 6 wait until none of these is on its way.
+   Whenever none of a circuit's messages is on its way, whatever the link carries of other circuits, the two ends must agree in
+   states and blocks unless one awaits reset: an end may rest awaiting release-guard only opposite one that awaits reset. And no
+   nonsense may ever arrive where a call awaits address complete.
    Beside this goes on what must not matter: circuits that only one of the exchanges has, octets that neither of them wrote, one
-   circuit set aside with any record and messages of anybody's, counters and ranks of any size that leaves the counter room.
-   It holds from idle records on, and as well from any two legal ones, whatever was lost before, once either end has restarted the
-   circuit: in some of the episodes of a run at random, and before it once for every two records. */
+   circuit set aside with any record and with messages of anybody's, any ranks, and any counter that has room left, so that no event
+   is refused 13.
+   All this is to hold from idle records on, and also from any two legal ones, whatever was lost before, once either end has
+   restarted the circuit. Both are tried in the episodes of a run at random, and the latter before it for every two records. */
 #include "harness.h"
 #include "tup.h"
 
 #include <stdio.h>
 #include <string.h>
 
-/* Circuits of a group; NONE is where messages are counted that are about no circuit. */
+/* Circuits that a group has, and a number that is none of theirs. */
 enum { LEAST = 4, MOST = 6, NONE = MOST };
 
-/* Messages that a direction of the link has room for, and more than which the hosts do not let wait there. */
+/* Messages that one direction of the link has room for, and so many that the hosts wait until some of them have arrived. */
 enum { WAY = 128, MANY = 32 };
 
-/* Events of an episode; states; legal records; orders of arrival tried for every two of these. */
-enum { EPISODE = 5000, STATES = 13, LEGAL = 98, ORDERS = 3 };
+/* Events of an episode; orders of arrival that are tried for every two legal records. */
+enum { EPISODE = 5000, ORDERS = 3 };
 
-enum { CODES = 16384, LABEL = 5, REFUSALS = 15, INDICATIONS = 11, TIMERS = 7 };
+/* How many there are of each, counted from 0; legal records; octets of a label, behind which the heading stands. */
+enum { CODES = 16384, STATES = 13, REFUSALS = 15, INDICATIONS = 11, TIMERS = 7, LEGAL = 98, LABEL = 5 };
 
-/* Octets that neither end wrote. But for the last kind, the reader refuses them. */
+/* Octets that neither end wrote. The reader refuses them all but those of the last kind. */
 enum foreign { JUNK, WRONG_CODES, TRUNCATED, UNKNOWN_HEADING, SPARE_DIGIT, ON_CIRCUIT_ASIDE, FOREIGN };
 
 struct message {
@@ -36,24 +38,25 @@ struct message {
     uint32_t refusal; /* what the reader at the other end is to say */
 };
 
-/* What each exchange knows of the group, and the table that it keeps; the octets behind its last circuit are not lent. */
+/* The group as each end has it, and the table that it keeps there, of which no more is lent than its circuits; and what stood in
+   the tables when the episode began. */
 static struct group { uint32_t own, far, circuits; } group[2];
 static uint8_t table[2][TUP_TABLE_OCTETS(MOST)], at_first[2][TUP_TABLE_OCTETS(MOST)];
 
-/* way[i] carries what end i sent, in order; on_way counts by circuit, in both directions. */
+/* way[i] carries what end i sent, in order; on_way counts it by circuit, both directions together. */
 static struct queue {
     struct message at[WAY];
     unsigned first, count;
 } way[2];
 static unsigned on_way[MOST + 1];
 
-static uint32_t aside;           /* the circuit set aside: its ends are not compared */
-static int to_be_restarted[MOST]; /* before anything else happens there */
+static uint32_t aside;            /* the circuit set aside: its ends are not compared */
+static int to_be_restarted[MOST]; /* before anything else happens on the circuit */
 
 static struct { unsigned end; uint32_t circuit, kind, code, detail; } now;
 static struct {
     unsigned long events, refused, bad_records, from_idle, from_any, restarted_first, set_anew, in_seized, longest;
-    unsigned long quiet, apart[STATES][STATES], marks[2][2], guard_opposite_reset, amid_others, others, most_others;
+    unsigned long quiet, apart[STATES][STATES], marks[2][2], reset, guard_opposite_reset, amid_others, others, most_others;
     unsigned long indications[INDICATIONS], headings[256], timers[TIMERS];
     unsigned long lost, restarts_amid_others, foreign[FOREIGN], dropped[REFUSALS];
 } seen;
@@ -70,10 +73,10 @@ static int has_flag(unsigned end, uint32_t circuit, uint32_t flag)
 
 static void describe(void)
 {
-    printf("  event %lu, circuit %u, at end %u: kind %u code %u detail %u; set aside is circuit %u\n", seen.events, now.circuit,
+    printf("  event %lu, circuit %u, at end %u: kind %u code %u detail %u; circuit %u is set aside\n", seen.events, now.circuit,
            now.end, now.kind, now.code, now.detail, aside);
     for (unsigned end = 0; end < 2; end++) {
-        printf("  end %u: code %u, %u circuits, has %u messages on their way", end, group[end].own, group[end].circuits,
+        printf("  end %u: code %u, %u circuits, %u messages on their way to the other", end, group[end].own, group[end].circuits,
                way[end].count);
         if (now.circuit < group[end].circuits)
             printf("; state %u flags %u, at first state %u flags %u", state_at(end, now.circuit),
@@ -96,6 +99,7 @@ static void agree(uint32_t circuit)
     uint32_t state = state_at(controlling, circuit), opposite = state_at(other, circuit);
     unsigned others = way[0].count + way[1].count;
     if (state == TUP_AWAITING_RESET || opposite == TUP_AWAITING_RESET) {
+        seen.reset++;
         seen.guard_opposite_reset += state == TUP_AWAITING_RELEASE_GUARD || opposite == TUP_AWAITING_RELEASE_GUARD;
         return;
     }
@@ -139,19 +143,18 @@ static struct message take(unsigned from)
     return message;
 }
 
-/* What a restart does to the link: the messages of its circuit are gone, and all others stay in their order. */
+/* What a restart does to the link: every message is taken off once, and those of other circuits are put back in their order. */
 static void lose(uint32_t circuit)
 {
-    seen.lost += on_way[circuit];
-    for (unsigned from = 0; from < 2; from++) {
-        unsigned kept = 0;
-        for (unsigned i = 0; i < way[from].count; i++)
-            if (on_link(from, i)->about != circuit)
-                *on_link(from, kept++) = *on_link(from, i);
-        way[from].count = kept;
-    }
-    seen.restarts_amid_others += on_way[circuit] > 0 && way[0].count + way[1].count > 0;
-    on_way[circuit] = 0;
+    unsigned lost = on_way[circuit];
+    for (unsigned from = 0; from < 2; from++)
+        for (unsigned left = way[from].count; left > 0; left--) {
+            struct message message = take(from);
+            if (message.about != circuit)
+                put(from, &message);
+        }
+    seen.lost += lost;
+    seen.restarts_amid_others += lost > 0 && way[0].count + way[1].count > 0;
 }
 
 /* Messages. */
@@ -222,8 +225,8 @@ static void fill_with_junk(struct message *message, uint32_t code)
     message->refusal = message->len <= LABEL ? TUP_WRONG_LENGTH : TUP_WRONG_LABEL;
 }
 
-/* Octets on their way from this end's side that neither end wrote. They may name any circuit, but a message that can be read is
-   about the one set aside, or it would be as good as an end's own. */
+/* Octets that neither end wrote, coming from this end's side. They may name any circuit; but where they can be read, they are about
+   the one set aside, since nobody could tell them from an end's own. */
 static struct message foreign_message(unsigned from, enum foreign kind)
 {
     struct group writer = kind == WRONG_CODES ? with_wrong_codes(group[from]) : group[from];
@@ -278,13 +281,13 @@ static void send(unsigned end, uint32_t circuit, uint32_t heading, uint32_t deta
     seen.headings[heading] += compared(circuit) != 0;
 }
 
-/* An accepted event leaves alone the other records, and what is not lent. */
+/* An event changes no record but its circuit's, and nothing that is not lent. */
 static void expect_others_kept(unsigned end, uint32_t circuit, const uint8_t *before)
 {
     size_t record = TUP_RECORD_AT(circuit), next = TUP_RECORD_AT(circuit + 1);
     if (memcmp(table[end] + TUP_COUNTER_OCTETS, before + TUP_COUNTER_OCTETS, record - TUP_COUNTER_OCTETS) != 0 ||
         memcmp(table[end] + next, before + next, sizeof table[end] - next) != 0)
-        differ("an event has changed another circuit's record");
+        differ("the event has changed more than its circuit's record");
 }
 
 static void expect_all_kept(unsigned end, const uint8_t *before)
@@ -293,14 +296,23 @@ static void expect_all_kept(unsigned end, const uint8_t *before)
         differ("what was refused has changed the table of end %u", end);
 }
 
-/* Only the circuit set aside may have a bad record; elsewhere no signal of the other end's is refused. */
+/* On the circuit set aside the record may be bad, and nowhere else. But for that no signal is refused, not even 13. */
 static void expect_refusal(uint32_t refusal)
 {
-    int bad_record = refusal == TUP_BAD_RECORD;
-    if (bad_record ? now.circuit != aside : now.kind == TUP_SIGNAL || refusal == TUP_COUNTER_FULL)
+    if (refusal == TUP_BAD_RECORD ? now.circuit != aside : now.kind == TUP_SIGNAL)
         differ("the event is refused %u", refusal);
     seen.refused++;
-    seen.bad_records += (unsigned long)bad_record;
+    seen.bad_records += refusal == TUP_BAD_RECORD;
+}
+
+static void expect_sense(void)
+{
+    uint32_t state = state_at(now.end, now.circuit);
+    if (now.kind != TUP_SIGNAL || !compared(now.circuit))
+        return;
+    seen.in_seized += state == TUP_OUT_SEIZED;
+    if (is_nonsense(state, now.code))
+        differ("heading %02x arrives before address complete", now.code);
 }
 
 static void taken(uint64_t answer)
@@ -316,13 +328,15 @@ static void taken(uint64_t answer)
         seen.timers[now.code]++;
 }
 
+/* On other circuits nothing has changed then, neither records nor messages, so this one alone is looked at. */
 static void event(unsigned end, uint32_t circuit, uint32_t kind, uint32_t code, uint32_t detail)
 {
-    const struct group *own = &group[end];
+    const struct group *at = &group[end];
     uint8_t before[sizeof table[0]];
     memcpy(before, table[end], sizeof before);
     now.end = end, now.circuit = circuit, now.kind = kind, now.code = code, now.detail = detail;
-    uint64_t answer = tup_step(own->own, own->far, table[end], TUP_TABLE_OCTETS(own->circuits), circuit, kind, code, detail);
+    expect_sense();
+    uint64_t answer = tup_step(at->own, at->far, table[end], TUP_TABLE_OCTETS(at->circuits), circuit, kind, code, detail);
     seen.events++;
     if (tup_answer_refusal(answer) == TUP_ACCEPTED) {
         expect_others_kept(end, circuit, before);
@@ -335,26 +349,18 @@ static void event(unsigned end, uint32_t circuit, uint32_t kind, uint32_t code, 
         agree(circuit);
 }
 
-static void expect_sense(unsigned end, uint32_t circuit, uint32_t heading)
-{
-    if (!compared(circuit))
-        return;
-    seen.in_seized += state_at(end, circuit) == TUP_OUT_SEIZED;
-    if (is_nonsense(state_at(end, circuit), heading))
-        differ("heading %02x arrives at end %u on circuit %u before address complete", heading, end, circuit);
-}
-
-/* Takes the oldest octets on their way to this end and reads them. What can be read is an event on the circuit that they name,
-   and what is refused is dropped. */
+/* Takes the oldest octets on their way to this end and reads them: what can be read is an event on the circuit named, and what is
+   refused is dropped and changes nothing. */
 static void arrive(unsigned end)
 {
-    const struct group *own = &group[end];
+    const struct group *at = &group[end];
     struct message message = take(1 - end);
     uint8_t fields[TUP_MESSAGE_OCTETS], before[sizeof table[0]];
     memcpy(before, table[end], sizeof before);
-    uint32_t refusal = tup_read(own->own, own->far, own->circuits, message.octets, message.len, fields, sizeof fields);
+    now.end = end, now.circuit = message.about, now.kind = TUP_SIGNAL, now.code = message.octets[LABEL], now.detail = 0;
+    uint32_t refusal = tup_read(at->own, at->far, at->circuits, message.octets, message.len, fields, sizeof fields);
     if (refusal != message.refusal)
-        differ("octets that arrive at end %u are refused %u and should be %u", end, refusal, message.refusal);
+        differ("octets that arrive are refused %u and should be %u", refusal, message.refusal);
     if (refusal != TUP_ACCEPTED) {
         expect_all_kept(end, before);
         seen.dropped[refusal]++;
@@ -362,7 +368,6 @@ static void arrive(unsigned end)
     }
     if (tup_message_circuit(fields) != message.about)
         differ("the circuit read is %u and should be %u", tup_message_circuit(fields), message.about);
-    expect_sense(end, message.about, fields[TUP_MESSAGE_HEADING]);
     event(end, message.about, TUP_SIGNAL, fields[TUP_MESSAGE_HEADING], fields[TUP_MESSAGE_ACM]);
 }
 
@@ -399,23 +404,24 @@ static void set_groups(uint32_t code, uint32_t other, uint32_t circuits, uint32_
 
 static void clear_link(void)
 {
-    memset(way, 0, sizeof way);
+    way[0].count = way[1].count = 0;
     memset(on_way, 0, sizeof on_way);
 }
 
-/* The circuit set aside has any octets at one time, and at another a legal record, so that more happens there. So has a circuit
-   that the other end has not. */
+/* The circuit set aside has any two octets at one time, nearly always bad ones, and at another a legal record, so that more happens
+   there; a circuit that the other end does not have begins with a legal one as well. */
 static void set_first_record(unsigned end, uint32_t circuit, int from_any)
 {
-    if (circuit == aside && chance(2))
-        set_record(end, circuit, draw(256), draw(256));
-    else if (!compared(circuit) || from_any)
+    if (circuit == aside && chance(2)) {
+        uint32_t any = draw(65536);
+        set_record(end, circuit, any / 256, any % 256);
+    } else if (!compared(circuit) || from_any)
         set_legal(end, circuit, draw(LEGAL));
     else
         set_record(end, circuit, TUP_IDLE, 0);
 }
 
-/* Two exchanges anew, with nothing on its way: idle, or with any legal records and a restart to come on every circuit. */
+/* Two exchanges anew and nothing on its way: their circuits are idle, or have any legal records and are restarted first. */
 static void begin_episode(int from_any)
 {
     uint32_t code = draw(CODES), other = (code + 1 + draw(CODES - 1)) % CODES;
@@ -471,7 +477,7 @@ static uint32_t pace(void)
     return now_at;
 }
 
-static void anything(void)
+static void one_move(void)
 {
     unsigned end = draw(2);
     unsigned waiting = way[1 - end].count;
@@ -493,7 +499,7 @@ static void episodes(unsigned long events)
         unsigned long until = seen.events + EPISODE;
         begin_episode((int)draw(2));
         while (seen.events < until)
-            anything();
+            one_move();
     }
 }
 
@@ -587,9 +593,10 @@ static void quiet_moments_seen(void)
     covered("quiet with no block: %lu, a block at one end: %lu and %lu, at both: %lu", seen.marks[0][0], seen.marks[1][0],
             seen.marks[0][1], seen.marks[1][1]);
     expect_seen(seen.guard_opposite_reset, "quiet, awaiting release-guard opposite reset", 0);
-    expect_seen(seen.amid_others, "quiet with others' messages on their way", 0);
-    covered("quiet with others' messages on their way: %lu, at a quiet moment %.1f of them, at most %lu", seen.amid_others,
-            (double)seen.others / (double)seen.quiet, seen.most_others);
+    covered("quiet, and an end awaits reset: %lu, the other one release-guard: %lu", seen.reset, seen.guard_opposite_reset);
+    expect_seen(seen.amid_others, "quiet with messages of other circuits on their way", 0);
+    covered("quiet with messages of other circuits on their way: %lu, with %lu of them in all, at most %lu", seen.amid_others,
+            seen.others, seen.most_others);
 }
 
 static void signals_seen(void)
@@ -619,8 +626,8 @@ static void foreign_seen(void)
         expect_seen(seen.dropped[refusals[i]], "dropped by the reader, refused", refusals[i]);
     for (unsigned i = TUP_WRONG_LENGTH; i < REFUSALS; i++)
         dropped += seen.dropped[i];
-    covered("foreign octets dropped: %lu, foreign messages to the circuit set aside: %lu, about a circuit that one end has: %lu",
-            dropped, seen.foreign[ON_CIRCUIT_ASIDE], seen.dropped[TUP_NO_SUCH_CIRCUIT]);
+    covered("dropped: %lu times foreign octets, %lu messages about a circuit that one end has; put on the circuit set aside: %lu",
+            dropped, seen.dropped[TUP_NO_SUCH_CIRCUIT], seen.foreign[ON_CIRCUIT_ASIDE]);
 }
 
 int main(void)

@@ -15,4 +15,5 @@ pub mod Standing
 pub mod Claim
 pub mod Heard
 pub mod Plain
+pub mod Heals
 pub mod Cases

@@ -1,3 +1,4 @@
 pub mod Machine
 pub mod Ends
+pub mod Heals
 pub mod Cases
