@@ -50,7 +50,7 @@ pub different : (own far records records' : ℕ) (m m' : Said) (buffer buffer' :
 different own far records records' m m' buffer buffer' ok ok' d e =
     d (sameMessage own far records records' m m' (length buffer) (length buffer') (untested own far records m buffer ok) (untested own far records' m' buffer' ok') e)
 
-octetsLong : (own far : ℕ) (m : Said) → length (octetsOf own far m) ≡ lengthOf m
+pub octetsLong : (own far : ℕ) (m : Said) → length (octetsOf own far m) ≡ lengthOf m
 unfolding octetsOf
 octetsLong own far m = go (isIam (m .heading)) (isAcm (m .heading))
   where

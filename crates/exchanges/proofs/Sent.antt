@@ -1,0 +1,218 @@
+-- What an exchange sends: the writer takes every signal with good particulars, and the other end reads the octets as that signal on that circuit.
+-- Assumes nothing.
+use mathlib.Core.Path.{_≡_, refl, sym, ap, _∙_, subst}
+use mathlib.Core.Bool.{Bool, true, false, cond, not, _&&_, _||_}
+use mathlib.Core.List.{List, [], _∷_}
+use Prim.Native.Nat.{ℕ, zero, suc, _+_, _/_, _%_, _<_, _≤_}
+use native.Mathlib.Omega.{arith}
+use borrow.Author.Tests.{ltb-false, le-ltb, eq-eqb, eqb-true}
+use lib.Dec.{T, eqb, leb, ltb, leb→le, lit≤}
+use lib.ListN.{length, take}
+use Rattle.circuit.specs.declared.Failure.the-variants.{Sec, Cgc, Nnc, Adi, Cfl, Ssb, Unn, Los, Sst}
+use Rattle.circuit.specs.declared.Signal.{Signal}
+use Rattle.circuit.specs.declared.Signal.the-variants.{Iam, Acm, Anc, Ann, Cbk, Clf, Ran, Rlg, Blo, Bla, Ubl, Uba, Rsc, Fail}
+use Rattle.circuit.specs.Groups.{badGroup}
+use Rattle.circuit.specs.Refusals.{firstOf}
+use Rattle.circuit.proofs.Refusals.{noneGiven}
+use Rattle.circuit.proofs.Every.{left, right}
+use Rattle.codes.specs.declared.Named.{Named}
+use Rattle.codes.specs.declared.Named.the-variants.{Known, Unknown}
+use Rattle.codes.specs.Headings.{headingOf, signalOf}
+use Rattle.formats.specs.Octets.{aboveFifteen}
+use Rattle.formats.specs.Messages.{listed, isIam, isAcm, half}
+use Rattle.reader.specs.declared.Fields.{Fields}
+use Rattle.reader.specs.Places.{cicIn, headingIn}
+use Rattle.reader.specs.Reading.{readRules, plainFields, iamFields, fieldsIn, unless, fieldsOf}
+use Rattle.writer.specs.Writing.{Said, tooLarge, badAddress, octetsOf, writeRules}
+use Rattle.writer.proofs.Tests.{few}
+use Rattle.tup.specs.Entries.{writeFrom}
+use Rattle.inverse.specs.Said.{fieldsSaid, lengthOf}
+use Rattle.inverse.proofs.Groups.{turned, recordsFit}
+use Rattle.inverse.proofs.Refusals.{fromRefusal}
+use Rattle.inverse.proofs.ReadBack.{octetsRead, taking}
+use Rattle.inverse.proofs.Laws.{octetsLong}
+use Rattle.inverse.proofs.Host.{fromFilled}
+use Rattle.ends.proofs.Words.{word, heard}
+use Rattle.exchanges.specs.Link.{Particulars, goodAddress, good, saying, goesOut, writes}
+
+isFalse : (b : Bool) → T (not b) → b ≡ false
+isFalse true t = absurd t
+isFalse false t = refl
+
+secondFalse : (a b : Bool) → (a || b) ≡ false → b ≡ false
+secondFalse true b e = absurd (subst T e tt)
+secondFalse false b e = e
+
+-- a group has at most 4096 circuits
+pub below : (own far count cic : ℕ) → badGroup own far count ≡ false → cic < count → cic < 4096
+below own far count cic group has =
+    let most : count ≤ 4096 = ltb-false 4096 count (secondFalse (eqb count 0) (ltb 4096 count) (recordsFit own far count group)) in
+    omega arith
+
+-- good particulars, field by field
+module _ (p : Particulars) (g : T (good p)) where
+  abbrev a : Bool
+  a = leb (p .acm) 63
+
+  abbrev c : Bool
+  c = leb (p .category) 63
+
+  abbrev i : Bool
+  i = leb (p .indicators) 2047
+
+  afterCategory : T (i && (goodAddress (p .address) && leb 17 (length (p .buffer))))
+  unfolding good
+  afterCategory = right c _ (right a _ g)
+
+  address : T (goodAddress (p .address))
+  address = left (goodAddress (p .address)) _ (right i _ afterCategory)
+
+  acmFits : ltb 63 (p .acm) ≡ false
+  unfolding good
+  acmFits = le-ltb 63 (p .acm) (leb→le _ _ (left a _ g))
+
+  categoryFits : ltb 63 (p .category) ≡ false
+  unfolding good
+  categoryFits = le-ltb 63 (p .category) (leb→le _ _ (left c _ (right a _ g)))
+
+  indicatorsFit : ltb 2047 (p .indicators) ≡ false
+  indicatorsFit = le-ltb 2047 (p .indicators) (leb→le _ _ (left i _ afterCategory))
+
+  codesFit : aboveFifteen (p .address) ≡ false
+  codesFit = isFalse (aboveFifteen (p .address)) (left (not (aboveFifteen (p .address))) _ address)
+
+  addressInOrder : badAddress (p .address) ≡ false
+  addressInOrder = isFalse (badAddress (p .address)) (right (not (aboveFifteen (p .address))) _ address)
+
+  room : 17 ≤ length (p .buffer)
+  room = leb→le 17 (length (p .buffer)) (right (goodAddress (p .address)) _ (right i _ afterCategory))
+
+-- THE WRITER TAKES IT
+
+module _ (own far count cic : ℕ) (group : badGroup own far count ≡ false) (has : cic < count) (p : Particulars) (g : T (good p)) where
+  abbrev Taken : ℕ → Type 0
+  Taken h = firstOf (writeRules own far count (saying cic h p) (length (p .buffer))) ≡ 0
+
+  taken : (h : ℕ) → listed h ≡ true → tooLarge (saying cic h p) ≡ false → (isIam h && badAddress (saying cic h p .address)) ≡ false
+      → lengthOf (saying cic h p) ≤ 17 → Taken h
+  taken h known fit ordered short =
+      let low : cic < 4096 = below own far count cic group has in
+      let fits : lengthOf (saying cic h p) ≤ length (p .buffer) = let r = room p g in omega arith in
+      noneGiven (writeRules own far count (saying cic h p) (length (p .buffer)))
+      (group, (le-ltb 4095 cic (omega arith), (ap not known, (fit, (ordered,
+      (ap (ltb (length (p .buffer))) (octetsLong own far (saying cic h p)) ∙ le-ltb (length (p .buffer)) (lengthOf (saying cic h p)) fits, tt))))))
+
+  plainTaken : (h : ℕ) → listed h ≡ true → tooLarge (saying cic h p) ≡ false → isIam h ≡ false → lengthOf (saying cic h p) ≤ 17 → Taken h
+  plainTaken h known fit i = taken h known fit (ap (λ (b : Bool). b && badAddress (saying cic h p .address)) i)
+
+  iamFits : tooLarge (saying cic 0x11 p) ≡ false
+  unfolding tooLarge
+  iamFits = rw (categoryFits p g, indicatorsFit p g, codesFit p g) refl
+
+  iamShort : 9 + half (length (p .address)) ≤ 17
+  iamShort = let n = few (p .address) (addressInOrder p g) in omega arith
+
+  acmSaid : tooLarge (saying cic 0x14 p) ≡ false
+  unfolding tooLarge
+  acmSaid = rw (acmFits p g) refl
+
+  pub writerTakes : (s : Signal) → Taken (headingOf s)
+  unfolding tooLarge
+  writerTakes Iam = taken 0x11 refl iamFits (addressInOrder p g) iamShort
+  writerTakes (Acm octet) = plainTaken 0x14 refl acmSaid refl (lit≤ tt)
+  writerTakes Anc = plainTaken 0x16 refl refl refl (lit≤ tt)
+  writerTakes Ann = plainTaken 0x26 refl refl refl (lit≤ tt)
+  writerTakes Cbk = plainTaken 0x36 refl refl refl (lit≤ tt)
+  writerTakes Clf = plainTaken 0x46 refl refl refl (lit≤ tt)
+  writerTakes Ran = plainTaken 0x56 refl refl refl (lit≤ tt)
+  writerTakes Rlg = plainTaken 0x17 refl refl refl (lit≤ tt)
+  writerTakes Blo = plainTaken 0x27 refl refl refl (lit≤ tt)
+  writerTakes Bla = plainTaken 0x37 refl refl refl (lit≤ tt)
+  writerTakes Ubl = plainTaken 0x47 refl refl refl (lit≤ tt)
+  writerTakes Uba = plainTaken 0x57 refl refl refl (lit≤ tt)
+  writerTakes Rsc = plainTaken 0x77 refl refl refl (lit≤ tt)
+  writerTakes (Fail Sec) = plainTaken 0x15 refl refl refl (lit≤ tt)
+  writerTakes (Fail Cgc) = plainTaken 0x25 refl refl refl (lit≤ tt)
+  writerTakes (Fail Nnc) = plainTaken 0x35 refl refl refl (lit≤ tt)
+  writerTakes (Fail Adi) = plainTaken 0x45 refl refl refl (lit≤ tt)
+  writerTakes (Fail Cfl) = plainTaken 0x55 refl refl refl (lit≤ tt)
+  writerTakes (Fail Ssb) = plainTaken 0x65 refl refl refl (lit≤ tt)
+  writerTakes (Fail Unn) = plainTaken 0x75 refl refl refl (lit≤ tt)
+  writerTakes (Fail Los) = plainTaken 0x85 refl refl refl (lit≤ tt)
+  writerTakes (Fail Sst) = plainTaken 0x95 refl refl refl (lit≤ tt)
+
+  pub accepted : (s : Signal) → writeFrom own far count (saying cic (headingOf s) p) (p .buffer) .answer % 256 ≡ 0
+  accepted s = fromRefusal own far count (saying cic (headingOf s) p) (p .buffer) ∙ writerTakes s
+
+-- what goes out where the writer accepts is the message
+pub goesOutWhole : (own far count : ℕ) (m : Said) (buffer : List ℕ) → writeFrom own far count m buffer .answer % 256 ≡ 0
+    → goesOut (writeFrom own far count m buffer) ≡ octetsOf own far m ∷ []
+goesOutWhole own far count m buffer ok =
+    let w = writeFrom own far count m buffer in
+    let f = fromFilled own far count m buffer ok in
+    ap (λ (b : Bool). cond b (take (w .answer / 256) (w .buffer) ∷ []) []) (eq-eqb (w .answer % 256) 0 ok)
+    ∙ ap (λ (n : ℕ). take n (w .buffer) ∷ []) (f .0)
+    ∙ ap (λ (l : List ℕ). l ∷ []) (f .1 .start)
+
+-- WHAT A READER HEARS IN IT
+
+-- a message that is accepted is of the circuit that its label names
+pub circuitRead : (own far count : ℕ) (xs : List ℕ) → fieldsOf own far count xs .refusal ≡ 0 → fieldsOf own far count xs .circuit .0 ≡ cicIn xs
+unfolding fieldsOf
+circuitRead own far count xs = go (firstOf (readRules own far count xs))
+  where
+    go : (n : ℕ) → unless n (fieldsIn (headingIn xs) xs) .refusal ≡ 0 → unless n (fieldsIn (headingIn xs) xs) .circuit .0 ≡ cicIn xs
+    go zero e = named (isIam (headingIn xs)) refl
+      where
+        named : (b : Bool) → isIam (headingIn xs) ≡ b → fieldsIn (headingIn xs) xs .circuit .0 ≡ cicIn xs
+        named true i = rw i refl
+        named false i = rw i refl
+    go (suc n) e = absurd (omega arith)
+
+-- the label names the circuit that the writer was told
+pub circuitWritten : (own far count : ℕ) (m : Said) (room : ℕ) → firstOf (writeRules own far count m room) ≡ 0 → cicIn (octetsOf own far m) ≡ m .cic
+circuitWritten own far count m room ok =
+    let t = taking own far count m room ok in
+    let back = octetsRead own far count m room ok 4096 (turned own far count 4096 (t .0) refl) (t .1) in
+    sym (circuitRead far own 4096 (octetsOf own far m) (ap (λ (f : Fields). f .refusal) back ∙ none (isIam (m .heading)))) ∙ ap (λ (f : Fields). f .circuit .0) back ∙ named (isIam (m .heading))
+  where
+    none : (b : Bool) → cond b (iamFields (m .cic) (m .category) (m .indicators) (m .address)) (plainFields (m .cic) (m .heading) (m .acm)) .refusal ≡ 0
+    none true = refl
+    none false = refl
+
+    named : (b : Bool) → cond b (iamFields (m .cic) (m .category) (m .indicators) (m .address)) (plainFields (m .cic) (m .heading) (m .acm)) .circuit .0 ≡ m .cic
+    named true = refl
+    named false = refl
+
+-- the signal that fields name, if they are accepted
+abbrev pub named : Named → List Signal
+named (Known s) = s ∷ []
+named Unknown = []
+
+abbrev pub heardIn : Fields → List Signal
+heardIn f = cond (eqb (f .refusal) 0) (named (signalOf (f .heading) (f .acm))) []
+
+-- the fields of a signal's message name a signal with its word
+pub sameWord : (cic : ℕ) (s : Signal) (p : Particulars) → heard (heardIn (fieldsSaid (saying cic (headingOf s) p))) ≡ word s ∷ []
+sameWord cic Iam p = refl
+sameWord cic (Acm octet) p = refl
+sameWord cic Anc p = refl
+sameWord cic Ann p = refl
+sameWord cic Cbk p = refl
+sameWord cic Clf p = refl
+sameWord cic Ran p = refl
+sameWord cic Rlg p = refl
+sameWord cic Blo p = refl
+sameWord cic Bla p = refl
+sameWord cic Ubl p = refl
+sameWord cic Uba p = refl
+sameWord cic Rsc p = refl
+sameWord cic (Fail Sec) p = refl
+sameWord cic (Fail Cgc) p = refl
+sameWord cic (Fail Nnc) p = refl
+sameWord cic (Fail Adi) p = refl
+sameWord cic (Fail Cfl) p = refl
+sameWord cic (Fail Ssb) p = refl
+sameWord cic (Fail Unn) p = refl
+sameWord cic (Fail Los) p = refl
+sameWord cic (Fail Sst) p = refl
