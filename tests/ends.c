@@ -315,6 +315,7 @@ static void expect_sense(void)
         differ("heading %02x arrives before address complete", now.code);
 }
 
+/* What is sent goes behind what a restart has left on the link. */
 static void taken(uint64_t answer)
 {
     if (now.kind == TUP_COMMAND && now.code == TUP_RESTART)
@@ -328,7 +329,8 @@ static void taken(uint64_t answer)
         seen.timers[now.code]++;
 }
 
-/* On other circuits nothing has changed then, neither records nor messages, so this one alone is looked at. */
+/* One event, and what it leads to. It changes neither records nor messages of other circuits, so that afterwards only this one has
+   to be looked at. */
 static void event(unsigned end, uint32_t circuit, uint32_t kind, uint32_t code, uint32_t detail)
 {
     const struct group *at = &group[end];
@@ -585,13 +587,13 @@ static void quiet_moments_seen(void)
         unsigned outgoing = stages[i][0], incoming = stages[i][1];
         expect_seen(seen.apart[outgoing][incoming], "the controlling end outgoing in state", outgoing);
         expect_seen(seen.apart[incoming][outgoing], "the other end outgoing in state", outgoing);
-        covered("quiet with states %u and %u: %lu, %lu the other way", outgoing, incoming, seen.apart[outgoing][incoming],
-                seen.apart[incoming][outgoing]);
+        covered("quiet with state %u at the controlling end and %u at the other: %lu, the other way: %lu", outgoing, incoming,
+                seen.apart[outgoing][incoming], seen.apart[incoming][outgoing]);
     }
     for (unsigned i = 0; i < 4; i++)
         expect_seen(seen.marks[i / 2][i % 2], "blocked at the ends, as bits,", i);
-    covered("quiet with no block: %lu, a block at one end: %lu and %lu, at both: %lu", seen.marks[0][0], seen.marks[1][0],
-            seen.marks[0][1], seen.marks[1][1]);
+    covered("quiet with no block: %lu, a block at the controlling end: %lu, at the other: %lu, at both: %lu", seen.marks[0][0],
+            seen.marks[1][0], seen.marks[0][1], seen.marks[1][1]);
     expect_seen(seen.guard_opposite_reset, "quiet, awaiting release-guard opposite reset", 0);
     covered("quiet, and an end awaits reset: %lu, the other one release-guard: %lu", seen.reset, seen.guard_opposite_reset);
     expect_seen(seen.amid_others, "quiet with messages of other circuits on their way", 0);
@@ -626,8 +628,8 @@ static void foreign_seen(void)
         expect_seen(seen.dropped[refusals[i]], "dropped by the reader, refused", refusals[i]);
     for (unsigned i = TUP_WRONG_LENGTH; i < REFUSALS; i++)
         dropped += seen.dropped[i];
-    covered("dropped: %lu times foreign octets, %lu messages about a circuit that one end has; put on the circuit set aside: %lu",
-            dropped, seen.dropped[TUP_NO_SUCH_CIRCUIT], seen.foreign[ON_CIRCUIT_ASIDE]);
+    covered("foreign octets dropped: %lu times, messages dropped as one end lacks the circuit: %lu, foreign messages for the one "
+            "set aside: %lu", dropped, seen.dropped[TUP_NO_SUCH_CIRCUIT], seen.foreign[ON_CIRCUIT_ASIDE]);
 }
 
 int main(void)

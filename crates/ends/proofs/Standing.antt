@@ -105,6 +105,13 @@ again : (c : Bool) (x y : End) → Holds (not c) x y → Holds c y x
 again true x y i = changed false x y i
 again false x y i = changed true x y i
 
+-- it speaks of words alone, so signals that have the same ones may stand for one another
+pub sameWords : (c : Bool) (r : Record) (w : List Signal) (t : Record) (v u : List Signal) → heard v ≡ heard u → Holds c (end r w) (end t v) → Holds c (end r w) (end t u)
+sameWords c r w t v u e i = record {
+  blocks = record { there = rw (← e) (i .blocks .there); back = rw (← e) (i .blocks .back); mine = i .blocks .mine; yours = i .blocks .yours };
+  calls = rw (← e) (i .calls);
+}
+
 -- it holds at the start
 
 below : (r : Record) → T (valid r) → r .state < 13

@@ -1,0 +1,298 @@
+-- Each thing that happens to two exchanges over the link is one that happens to two ends of the circuit, or leaves them as they are: what holds of two
+-- ends that are reached holds of the circuit's records and messages.
+-- Assumes nothing.
+use mathlib.Core.Path.{_≡_, refl, sym, ap, _∙_, subst, subst₂}
+use mathlib.Core.Bool.{Bool, true, false, cond, not, _&&_, _||_, true≢false, false≢true}
+use mathlib.Core.List.{List, [], _∷_, _++_, append-nil}
+use Prim.Native.Nat.{ℕ, zero, suc, _%_, _^_, _<_, _≤_}
+use native.Mathlib.Omega.{arith}
+use borrow.Author.Tests.{eq-eqb, ne-eqb, eqb-true, eqb-false, leb-false, lt-leb}
+use lib.Dec.{T, eqb, leb, ltb, le→leb, lit≤}
+use lib.ListN.{length, replicate}
+use Rattle.circuit.specs.declared.Record.{Record}
+use Rattle.circuit.specs.declared.Signal.{Signal}
+use Rattle.circuit.specs.declared.Command.the-variants.{Restart}
+use Rattle.circuit.specs.declared.Event.the-variants.{Ordered}
+use Rattle.circuit.specs.declared.Sends.{Sends}
+use Rattle.circuit.specs.declared.Outcome.{Outcome}
+use Rattle.circuit.specs.Groups.{badCode, badGroup, controls}
+use Rattle.circuit.specs.Refusals.{firstOf, Clear}
+use Rattle.circuit.proofs.Refusals.{clear}
+use Rattle.circuit.proofs.Groups.{oneControls}
+use Rattle.circuit.proofs.Every.{left, right, isTrue}
+use Rattle.codes.specs.declared.Named.{Named}
+use Rattle.codes.specs.declared.Named.the-variants.{Known, Unknown}
+use Rattle.codes.specs.declared.Found.{Found}
+use Rattle.codes.specs.declared.Found.the-variants.{Is, Missing}
+use Rattle.codes.specs.Headings.{signalOf}
+use Rattle.codes.specs.Numbers.{detailFits, arrives as named-event, eventOf}
+use Rattle.words.specs.Octets.{over}
+use Rattle.layout.specs.Layout.{recordsIn, stateAt, flagsAt, recordOf, recordAt, allowedAt, put}
+use Rattle.layout.proofs.Laws.{flagsLow, putFlags, rankedFlags}
+use Rattle.step.specs.Step.{stepFound}
+use Rattle.group.specs.Table.{stepIn}
+use Rattle.group.proofs.Laws.{Carries, Same, byCases, others, keepsLength, isStep, refusals}
+use Rattle.group.proofs.Valid.{lowFlags, validAt, behind}
+use Rattle.reader.specs.declared.Fields.{Fields}
+use Rattle.reader.specs.Places.{cicIn, headingIn, sixBitsIn}
+use Rattle.reader.specs.Reading.{readRules, fieldsIn, unless, fieldsOf}
+use Rattle.formats.specs.Messages.{isIam, isAcm}
+use Rattle.writer.specs.Writing.{badAddress}
+use Rattle.tup.specs.Entries.{fieldsOctets, Told, readInto}
+use Rattle.tup.proofs.Entries.{refuses, fills}
+use Rattle.inverse.proofs.Numbers.{numberBack}
+use Rattle.inverse.proofs.Refusals.{readRefusal}
+use Rattle.ends.specs.Machine.{Both, acted, arrival, When, When.anyTime, When.inSilence, When.losingAll, When.never, whenGiven, none, without, silence, given, spared, Happening, Happening.arrives, Happening.host, turn}
+use Rattle.ends.specs.Ends.{End, end, idle, inOrder, does, seen, endActs}
+use Rattle.ends.proofs.Machine.{always, allLost}
+use Rattle.ends.proofs.Words.{heard, heard-more}
+use Rattle.ends.proofs.Standing.{Holds, changed, sameWords, idles, restarts, keeps}
+use Rattle.exchanges.specs.Link.{Message, Exchange, isAbout, Particulars, good, writesAll, plainly, Gift, Gift.event, Gift.foreign, steps, refused13, reads, circuitIn, signalIn, taking, sticking, exchangeActs, Has, IdleAt, restartOf, LinkStart, LinkStart.idleAtBoth, LinkStart.firstRestarted, LinkStart.secondRestarted, ExchangesCome}
+use Rattle.exchanges.proofs.Sent.{below, circuitRead, named, heardIn}
+use Rattle.exchanges.proofs.Seen.{seenIn, signals, signals-more, silent, lostAll, lostOthers, foreignLast, sentBeside, sentHere}
+
+-- a table of a good group that has the circuit, with flags there
+record Good (own far cic : ℕ) (table : List ℕ) : Type 0 where
+  has : Has own far cic table
+  low : flagsAt table cic ≤ 15
+
+-- the circuit's end of an exchange
+abbrev pub endAt : (own far cic : ℕ) → Exchange → End
+endAt own far cic x = end (recordAt (x .holds) cic) (signals own far (recordsIn (length (x .holds))) cic (x .coming))
+
+pub record LinkHolds (own far cic : ℕ) (x y : Exchange) : Type 0 where
+  first : Good own far cic (x .holds)
+  second : Good far own cic (y .holds)
+  pub ends : Holds (controls own far cic) (endAt own far cic x) (endAt far own cic y)
+
+abbrev HoldsPair : (own far cic : ℕ) → Both (List ℕ) Message → Type 0
+HoldsPair own far cic p = LinkHolds own far cic (p .0) (p .1)
+
+-- A TABLE STAYS GOOD
+
+module _ (own far cic : ℕ) (table : List ℕ) (g : Good own far cic table) (i : ℕ) (e : Found) where
+  lowHere : flagsAt (stepIn own far table cic e .table) cic ≤ 15
+  lowHere =
+      byCases own far table cic e (λ s. flagsAt (s .table) cic ≤ 15) (g .low) (g .low) (λ n h. g .low)
+      (λ h l a f. rw (putFlags table cic (o .after) h) (flagsLow (o .after)))
+      (λ h l a f k. rw (rankedFlags (put table cic (o .after)) cic cic _, putFlags table cic (o .after) h) (flagsLow (o .after)))
+    where
+      o : Outcome
+      o = stepFound (controls own far cic) (recordAt table cic) e
+
+  stillLow : flagsAt (stepIn own far table i e .table) cic ≤ 15
+  stillLow = go (eqb i cic) refl
+    where
+      go : (b : Bool) → eqb i cic ≡ b → flagsAt (stepIn own far table i e .table) cic ≤ 15
+      go true q = rw (eqb-true i cic q) lowHere
+      go false q = rw (others own far table i e cic (λ z. eqb-false i cic q (sym z)) .flags) (g .low)
+
+  stepped : Good own far cic (stepIn own far table i e .table)
+  stepped = record {
+    has = record { group = rw (keepsLength own far table i e) (g .has .group); circuit = rw (keepsLength own far table i e) (g .has .circuit) };
+    low = stillLow;
+  }
+
+-- AN EVENT ON THE CIRCUIT, AND ONE BESIDE IT
+
+module _ (own far cic : ℕ) (table u : List ℕ) (g : Good own far cic table) (k : Good far own cic u) where
+  abbrev c : Bool
+  c = controls own far cic
+
+  abbrev mine : List Message → List Signal
+  mine = signals own far (recordsIn (length table)) cic
+
+  abbrev theirs : List Message → List Signal
+  theirs = signals far own (recordsIn (length u)) cic
+
+  -- what the two ends come to
+  abbrev EndsActed : Found → (w v : List Signal) → Type 0
+  EndsActed e w v = Holds c (end (does c (recordAt table cic) e .after) w) (end (recordAt u cic) (v ++ inOrder (does c (recordAt table cic) e .sends)))
+
+  -- what the exchanges come to, with w and v still on their way
+  abbrev Acted : (i : ℕ) → Found → Particulars → (w v : List Message) → Type 0
+  Acted i e p w v = HoldsPair own far cic (acted (steps own far cic table i e p) w (record { holds = u; coming = v }))
+
+  -- another table of the same length, with this record at the circuit
+  stored : (after : List ℕ) → length after ≡ length table → (r : Record) → recordAt after cic ≡ r → (w : List Message) (v : List Signal)
+      → Holds c (end r (mine w)) (end (recordAt u cic) v) → Holds c (endAt own far cic (record { holds = after; coming = w })) (end (recordAt u cic) v)
+  stored after long r is w v h =
+      subst (λ (n : ℕ). Holds c (end (recordAt after cic) (signals own far (recordsIn n) cic w)) (end (recordAt u cic) v)) (sym long)
+      (subst (λ (r : Record). Holds c (end r (mine w)) (end (recordAt u cic) v)) (sym is) h)
+
+  onIt : (e : Found) (p : Particulars) (w v : List Message) → T (good p) → (stepIn own far table cic e .answer .refusal ≡ 13 → ⊥)
+      → EndsActed e (mine w) (theirs v) → Acted cic e p w v
+  unfolding does
+  onIt e p w v gp not13 i = record {
+    first = stepped own far cic table g cic e;
+    second = k;
+    ends = stored (stepIn own far table cic e .table) (keepsLength own far table cic e) (o .after) (s .stored) w (theirs (v ++ sending (stepIn own far table cic e .answer .sends)))
+        (subst (λ (q : Sends). Holds c (end (o .after) (mine w)) (end (recordAt u cic) (theirs (v ++ sending q)))) (sym (s .sends))
+        (sameWords c (o .after) (mine w) (recordAt u cic) (theirs v ++ inOrder (o .sends)) (theirs (v ++ sending (o .sends))) more i));
+  }
+    where
+      o : Outcome
+      o = stepFound c (recordAt table cic) e
+
+      s : Carries cic o (stepIn own far table cic e)
+      s = isStep own far table cic e (g .has .group) (g .has .circuit) (g .low) not13
+
+      sending : Sends → List Message
+      sending q = writesAll own far (recordsIn (length table)) cic p (inOrder q)
+
+      more : heard (theirs v ++ inOrder (o .sends)) ≡ heard (theirs (v ++ sending (o .sends)))
+      more = sym (ap heard (signals-more far own (recordsIn (length u)) cic v (sending (o .sends))) ∙ heard-more (theirs v) (theirs (sending (o .sends)))
+          ∙ ap (λ (l : List ℕ). heard (theirs v) ++ l) (sentHere far own (recordsIn (length u)) cic (recordsIn (length table)) (g .has .group) (g .has .circuit) (k .has .group) (k .has .circuit) p gp (inOrder (o .sends)))
+          ∙ sym (heard-more (theirs v) (inOrder (o .sends))))
+
+  besideIt : (i : ℕ) → (i ≡ cic → ⊥) → (e : Found) (p : Particulars) (w v : List Message)
+      → Holds c (end (recordAt table cic) (mine w)) (end (recordAt u cic) (theirs v)) → Acted i e p w v
+  besideIt i other e p w v h = record {
+    first = stepped own far cic table g i e;
+    second = k;
+    ends = stored (stepIn own far table i e .table) (keepsLength own far table i e) (recordAt table cic) unchanged w (theirs (v ++ sent))
+        (subst (λ (q : List Signal). Holds c (end (recordAt table cic) (mine w)) (end (recordAt u cic) q)) (sym nothing) h);
+  }
+    where
+      same : Same table (stepIn own far table i e .table) cic
+      same = others own far table i e cic (λ z. other (sym z))
+
+      unchanged : recordAt (stepIn own far table i e .table) cic ≡ recordAt table cic
+      unchanged = ap (λ (n : ℕ). recordOf n (flagsAt (stepIn own far table i e .table) cic)) (same .state) ∙ ap (recordOf (stateAt table cic)) (same .flags)
+
+      sent : List Message
+      sent = writesAll own far (recordsIn (length table)) i p (inOrder (stepIn own far table i e .answer .sends))
+
+      nothing : theirs (v ++ sent) ≡ theirs v
+      nothing = signals-more far own (recordsIn (length u)) cic v sent
+          ∙ rw (sentBeside far own (recordsIn (length u)) cic (recordsIn (length table)) i other p (inOrder (stepIn own far table i e .answer .sends))) (append-nil (theirs v))
+
+-- A MESSAGE ARRIVES
+
+plainlyGood : T (good plainly)
+unfolding good badAddress
+plainlyGood = tt
+
+-- an accepted message is of a circuit of the group
+ofGroup : (own far count : ℕ) (m : Message) → fieldsOf own far count m .refusal ≡ 0 → cicIn m < count
+ofGroup own far count m z = leb-false count (cicIn m) (tests .1 .1 .1 .1 .1 .1 .1 .1 .0)
+  where
+    tests : Clear (readRules own far count m)
+    tests = clear (readRules own far count m) tt (sym (readRefusal own far count m) ∙ z)
+
+-- what the reader answers: the refusal, or the fields in 23 octets
+module _ (own far watched : ℕ) (table : List ℕ) (m : Message) where
+  abbrev f : Fields
+  f = fieldsOf own far (recordsIn (length table)) m
+
+  byReading : (P : Told → Type 0) → ((f .refusal ≡ 0 → ⊥) → P (record { answer = f .refusal; buffer = replicate 23 0 }))
+      → (f .refusal ≡ 0 → P (record { answer = 0; buffer = over (fieldsOctets f) (replicate 23 0) })) → P (reads own far watched table m)
+  byReading P other taken = go (eqb (f .refusal) 0) refl
+    where
+      go : (b : Bool) → eqb (f .refusal) 0 ≡ b → P (reads own far watched table m)
+      go true e = let z = eqb-true (f .refusal) 0 e in
+          subst P (sym (fills own far (recordsIn (length table)) m (replicate 23 0) f refl z (lit≤ tt))) (taken z)
+      go false e = let z = eqb-false (f .refusal) 0 e in
+          subst P (sym (refuses own far (recordsIn (length table)) m (replicate 23 0) f refl z)) (other z)
+
+  -- the fields of an accepted message are an event's numbers: the detail is an ACM's octet, or 0
+  fitting : f .refusal ≡ 0 → detailFits (f .heading) (f .acm) ≡ true
+  unfolding fieldsOf
+  fitting = go (firstOf (readRules own far (recordsIn (length table)) m))
+    where
+      byAcm : (b : Bool) → isAcm (headingIn m) ≡ b → detailFits (headingIn m) (cond b (sixBitsIn m) 0) ≡ true
+      byAcm true e = let l : sixBitsIn m ≤ 255 = omega arith in rw (isTrue (leb (sixBitsIn m) 255) (le→leb (sixBitsIn m) 255 l), e) refl
+      byAcm false e = rw e refl
+
+      byIam : (b : Bool) → isIam (headingIn m) ≡ b → detailFits (fieldsIn (headingIn m) m .heading) (fieldsIn (headingIn m) m .acm) ≡ true
+      byIam true e = rw e refl
+      byIam false e = rw e (byAcm (isAcm (headingIn m)) refl)
+
+      go : (n : ℕ) → unless n (fieldsIn (headingIn m) m) .refusal ≡ 0
+          → detailFits (unless n (fieldsIn (headingIn m) m) .heading) (unless n (fieldsIn (headingIn m) m) .acm) ≡ true
+      go zero e = byIam (isIam (headingIn m)) refl
+      go (suc n) e = absurd (omega arith)
+
+module _ (own far cic : ℕ) where
+  -- the two ends, when a signal arrives that a message names, or none
+  heardStep : (r : Record) (n : Named) (w : List Signal) (t : Record) (v : List Signal) → Holds (controls own far cic) (end r (named n ++ w)) (end t v)
+      → Holds (controls own far cic) (end (does (controls own far cic) r (named-event n) .after) w) (end t (v ++ inOrder (does (controls own far cic) r (named-event n) .sends)))
+  heardStep r (Known s) w t v i = keeps (controls own far cic) (end r (s ∷ w)) (end t v) arrives i
+  heardStep r Unknown w t v i = keeps (controls own far cic) (end r w) (end t v) (host Missing) i
+
+  module _ (table : List ℕ) (m : Message) (rest : List Message) (y : Exchange) (h : LinkHolds own far cic (record { holds = table; coming = m ∷ rest }) y) where
+    abbrev n : ℕ
+    n = recordsIn (length table)
+
+    abbrev F : Fields
+    F = fieldsOf own far n m
+
+    abbrev Arrived : Told → Type 0
+    Arrived r = HoldsPair own far cic (cond (sticking own far cic table r) (record { holds = table; coming = m ∷ rest }, y) (acted (taking own far cic table r) rest y))
+
+    -- its message is gone, and nobody heard anything in it
+    unheard : seenIn own far n cic m ≡ [] → Holds (controls own far cic) (end (recordAt table cic) (signals own far n cic rest)) (endAt far own cic y)
+    unheard e = subst (λ (l : List Signal). Holds (controls own far cic) (end (recordAt table cic) (l ++ signals own far n cic rest)) (endAt far own cic y)) e (h .ends)
+
+    dropped : (F .refusal ≡ 0 → ⊥) → Arrived (record { answer = F .refusal; buffer = replicate 23 0 })
+    dropped z = rw (ne-eqb (F .refusal) 0 z) (record {
+      first = h .first;
+      second = h .second;
+      ends = subst (λ (l : List Message). Holds (controls own far cic) (end (recordAt table cic) (signals own far n cic rest)) (endAt far own cic (record { holds = y .holds; coming = l })))
+          (sym (append-nil (y .coming))) (unheard (byAbout (isAbout cic m)));
+    })
+      where
+        nothing : heardIn F ≡ []
+        nothing = ap (λ (b : Bool). cond b (named (signalOf (F .heading) (F .acm))) []) (ne-eqb (F .refusal) 0 z)
+
+        byAbout : (b : Bool) → cond b (heardIn F) [] ≡ []
+        byAbout true = nothing
+        byAbout false = refl
+
+    module _ (z : F .refusal ≡ 0) where
+      abbrev e : Found
+      e = eventOf 1 (F .heading) (F .acm)
+
+      isNamed : e ≡ named-event (signalOf (F .heading) (F .acm))
+      unfolding eventOf
+      isNamed = ap (λ (b : Bool). cond b (named-event (signalOf (F .heading) (F .acm))) Missing) (fitting own far cic table m z)
+
+      hears : isAbout cic m ≡ true → seenIn own far n cic m ≡ named (signalOf (F .heading) (F .acm))
+      hears a = ap (λ (b : Bool). cond b (heardIn F) []) a ∙ ap (λ (b : Bool). cond b (named (signalOf (F .heading) (F .acm))) []) (eq-eqb (F .refusal) 0 z)
+
+      -- the circuit that it names
+      onCircuit : isAbout cic m ≡ true → (stepIn own far table cic e .answer .refusal ≡ 13 → ⊥)
+          → HoldsPair own far cic (acted (steps own far cic table cic e plainly) rest y)
+      onCircuit a not13 = onIt own far cic table (y .holds) (h .first) (h .second) e plainly rest (y .coming) plainlyGood not13
+          (subst (λ (e : Found). EndsActed own far cic table (y .holds) (h .first) (h .second) e (signals own far n cic rest) (signals far own (recordsIn (length (y .holds))) cic (y .coming))) (sym isNamed)
+          (heardStep (recordAt table cic) (signalOf (F .heading) (F .acm)) (signals own far n cic rest) (recordAt (y .holds) cic) _
+          (subst (λ (l : List Signal). Holds (controls own far cic) (end (recordAt table cic) (l ++ signals own far n cic rest)) (endAt far own cic y)) (hears a) (h .ends))))
+
+      stepping : (not13 : Bool) → refused13 own far cic table (cicIn m) e ≡ not13
+          → HoldsPair own far cic (cond not13 (record { holds = table; coming = m ∷ rest }, y) (acted (steps own far cic table (cicIn m) e plainly) rest y))
+      stepping true q = h
+      stepping false q = go (isAbout cic m) refl
+        where
+          go : (b : Bool) → isAbout cic m ≡ b → HoldsPair own far cic (acted (steps own far cic table (cicIn m) e plainly) rest y)
+          go true a = subst (λ (i : ℕ). HoldsPair own far cic (acted (steps own far cic table i e plainly) rest y)) (sym (eqb-true (cicIn m) cic a))
+              (onCircuit a (eqb-false _ 13 (subst (λ (i : ℕ). refused13 own far cic table i e ≡ false) (eqb-true (cicIn m) cic a) q)))
+          go false a = besideIt own far cic table (y .holds) (h .first) (h .second) (cicIn m) (eqb-false (cicIn m) cic a) e plainly rest (y .coming)
+              (unheard (ap (λ (b : Bool). cond b (heardIn F) []) a))
+
+      -- the circuit comes back from its two octets
+      circuit : circuitIn own far cic (over (fieldsOctets F) (replicate 23 0)) ≡ cicIn m
+      circuit = numberBack 2 (F .circuit .0) low ∙ circuitRead own far n m z
+        where
+          low : F .circuit .0 < 256 ^ 2
+          low = let a : F .circuit .0 ≡ cicIn m = circuitRead own far n m z in let b : cicIn m < 4096 = below own far n (cicIn m) (h .first .has .group) (ofGroup own far n m z) in omega arith
+
+      taken : Arrived (record { answer = 0; buffer = over (fieldsOctets F) (replicate 23 0) })
+      taken = subst (λ (i : ℕ). HoldsPair own far cic (cond (refused13 own far cic table i e) (record { holds = table; coming = m ∷ rest }, y) (acted (steps own far cic table i e plainly) rest y)))
+          (sym circuit) (stepping (refused13 own far cic table (cicIn m) e) refl)
+
+    arrived : Arrived (reads own far cic table m)
+    arrived = byReading own far cic table m Arrived dropped taken
+
+  pub keepsArrival : (table : List ℕ) (q : List Message) (y : Exchange) → LinkHolds own far cic (record { holds = table; coming = q }) y → HoldsPair own far cic (arrival (exchangeActs own far cic) table q y)
+  keepsArrival table [] y h = h
+  keepsArrival table (m ∷ rest) y h = arrived table m rest y h
