@@ -15,8 +15,9 @@ use Rattle.circuit.specs.declared.Command.the-variants.{Restart}
 use Rattle.circuit.specs.declared.Event.the-variants.{Ordered}
 use Rattle.circuit.specs.declared.Sends.{Sends}
 use Rattle.circuit.specs.declared.Outcome.{Outcome}
+use Rattle.circuit.specs.Records.{plain}
 use Rattle.circuit.specs.Groups.{badCode, badGroup, controls}
-use Rattle.circuit.specs.Refusals.{firstOf, Clear}
+use Rattle.circuit.specs.Refusals.{refuse, firstOf, Clear}
 use Rattle.circuit.proofs.Refusals.{clear}
 use Rattle.circuit.proofs.Groups.{oneControls}
 use Rattle.circuit.proofs.Every.{left, right, isTrue}
@@ -30,7 +31,9 @@ use Rattle.words.specs.Octets.{over}
 use Rattle.layout.specs.Layout.{recordsIn, stateAt, flagsAt, recordOf, recordAt, allowedAt, put}
 use Rattle.layout.proofs.Laws.{flagsLow, putFlags, rankedFlags}
 use Rattle.step.specs.Step.{stepFound}
+use Rattle.step.specs.Refusals.{foundRules}
 use Rattle.group.specs.Table.{stepIn}
+use Rattle.group.specs.Refusals.{refusalIn}
 use Rattle.group.proofs.Laws.{Carries, Same, byCases, others, keepsLength, isStep, refusals}
 use Rattle.group.proofs.Valid.{lowFlags, validAt, behind}
 use Rattle.reader.specs.declared.Fields.{Fields}
@@ -43,11 +46,12 @@ use Rattle.tup.proofs.Entries.{refuses, fills}
 use Rattle.inverse.proofs.Numbers.{numberBack}
 use Rattle.inverse.proofs.Refusals.{readRefusal}
 use Rattle.ends.specs.Machine.{Both, acted, arrival, When, When.anyTime, When.inSilence, When.losingAll, When.never, whenGiven, none, without, silence, given, spared, Happening, Happening.arrives, Happening.host, turn}
-use Rattle.ends.specs.Ends.{End, end, idle, inOrder, does, seen, endActs}
-use Rattle.ends.proofs.Machine.{always, allLost}
+use Rattle.ends.specs.Ends.{End, end, idle, inOrder, does, seen, endActs, Agree}
+use Rattle.ends.proofs.Machine.{always, mirror, allLost}
 use Rattle.ends.proofs.Words.{heard, heard-more}
 use Rattle.ends.proofs.Standing.{Holds, changed, sameWords, idles, restarts, keeps}
-use Rattle.exchanges.specs.Link.{Message, Exchange, isAbout, Particulars, good, writesAll, plainly, Gift, Gift.event, Gift.foreign, steps, refused13, reads, circuitIn, signalIn, taking, sticking, exchangeActs, Has, IdleAt, restartOf, LinkStart, LinkStart.idleAtBoth, LinkStart.firstRestarted, LinkStart.secondRestarted, ExchangesCome}
+use Rattle.ends.proofs.Claim.{agreed}
+use Rattle.exchanges.specs.Link.{Message, Exchange, isAbout, Particulars, good, writesAll, plainly, Gift, Gift.event, Gift.foreign, steps, refused13, reads, circuitIn, signalIn, taking, sticking, exchangeActs, Has, IdleAt, restartOf, LinkStart, LinkStart.idleAtBoth, LinkStart.firstRestarted, LinkStart.secondRestarted, ExchangesCome, ClaimOver}
 use Rattle.exchanges.proofs.Sent.{below, circuitRead, named, heardIn}
 use Rattle.exchanges.proofs.Seen.{seenIn, signals, signals-more, silent, lostAll, lostOthers, foreignLast, sentBeside, sentHere}
 
@@ -296,3 +300,231 @@ module _ (own far cic : ℕ) where
   pub keepsArrival : (table : List ℕ) (q : List Message) (y : Exchange) → LinkHolds own far cic (record { holds = table; coming = q }) y → HoldsPair own far cic (arrival (exchangeActs own far cic) table q y)
   keepsArrival table [] y h = h
   keepsArrival table (m ∷ rest) y h = arrived table m rest y h
+
+  -- THE HOST GIVES AN EVENT
+
+  -- on the circuit
+  module _ (x y : Exchange) (g : Good own far cic (x .holds)) (k : Good far own cic (y .holds)) (e : Found) (p : Particulars) (gp : T (good p))
+      (not13 : stepIn own far (x .holds) cic e .answer .refusal ≡ 13 → ⊥) where
+    abbrev seenBy : List Message → List Signal
+    seenBy = signals own far (recordsIn (length (x .holds))) cic
+
+    abbrev seenThere : List Message → List Signal
+    seenThere = signals far own (recordsIn (length (y .holds))) cic
+
+    -- what the two ends come to, and what the exchanges do
+    abbrev EndsAct : (w v : List Signal) → Type 0
+    EndsAct = EndsActed own far cic (x .holds) (y .holds) g k e
+
+    abbrev Acts : (w v : List Message) → Type 0
+    Acts w v = HoldsPair own far cic (acted (steps own far cic (x .holds) cic e p) w (record { holds = y .holds; coming = v }))
+
+    act : (w v : List Message) → EndsAct (seenBy w) (seenThere v) → Acts w v
+    act w v = onIt own far cic (x .holds) (y .holds) g k e p w v gp not13
+
+    -- nothing of the circuit is on its way
+    actFresh : (w v : List Message) → seenBy w ≡ [] → seenThere v ≡ [] → EndsAct [] [] → Acts w v
+    actFresh w v ew ev i = act w v (subst₂ EndsAct (sym ew) (sym ev) i)
+
+    -- all of it is lost
+    lose : EndsAct [] [] → Acts (without (isAbout cic) (x .coming)) (without (isAbout cic) (y .coming))
+    lose = actFresh (without (isAbout cic) (x .coming)) (without (isAbout cic) (y .coming))
+        (lostAll own far (recordsIn (length (x .holds))) cic (x .coming)) (lostAll far own (recordsIn (length (y .holds))) cic (y .coming))
+
+    -- the host of the circuit's end gives it
+    abbrev EndsGiven : When → List Signal → List Signal → Type 0
+    EndsGiven w q v = let r = given (endActs (controls own far cic)) w e (end (recordAt (x .holds) cic) q) (end (recordAt (y .holds) cic) v) in Holds (controls own far cic) (r .0) (r .1)
+
+    module _ (i : Holds (controls own far cic) (endAt own far cic x) (endAt far own cic y)) where
+      hosted : (w : When) → whenGiven e ≡ w → EndsGiven w (seenBy (x .coming)) (seenThere (y .coming))
+      hosted w q = subst (λ (w : When). EndsGiven w (seenBy (x .coming)) (seenThere (y .coming))) q (keeps (controls own far cic) (endAt own far cic x) (endAt far own cic y) (host e) i)
+
+      inQuiet : whenGiven e ≡ inSilence → T (silence (isAbout cic) x y) → Acts (x .coming) (y .coming)
+      inQuiet q t =
+          let ew = silent own far (recordsIn (length (x .holds))) cic (x .coming) (left (none (isAbout cic) (x .coming)) _ t) in
+          let ev = silent far own (recordsIn (length (y .holds))) cic (y .coming) (right (none (isAbout cic) (x .coming)) _ t) in
+          actFresh (x .coming) (y .coming) ew ev
+          (subst (λ (w : When). EndsGiven w [] []) q (keeps (controls own far cic) (end (recordAt (x .holds) cic) []) (end (recordAt (y .holds) cic) []) (host e)
+          (subst₂ (λ (w v : List Signal). Holds (controls own far cic) (end (recordAt (x .holds) cic) w) (end (recordAt (y .holds) cic) v)) ew ev i)))
+
+      actLosing : whenGiven e ≡ losingAll → Acts (without (isAbout cic) (x .coming)) (without (isAbout cic) (y .coming))
+      actLosing q = lose (subst₂ EndsAct (allLost (seenBy (x .coming))) (allLost (seenThere (y .coming))) (hosted losingAll q))
+
+  -- on whatever circuit
+  module _ (x y : Exchange) (h : LinkHolds own far cic x y) (i kind code detail : ℕ) (p : Particulars) where
+    abbrev ev : Found
+    ev = eventOf kind code detail
+
+    abbrev Given : (i : ℕ) → When → Type 0
+    Given i w = HoldsPair own far cic (given (exchangeActs own far cic) w (event i kind code detail p) x y)
+
+    module _ (gp : T (good p)) (not13 : stepIn own far (x .holds) cic ev .answer .refusal ≡ 13 → ⊥) where
+      givenHere : (w : When) → whenGiven ev ≡ w → Given cic w
+      givenHere anyTime q = act x y (h .first) (h .second) ev p gp not13 (x .coming) (y .coming) (hosted x y (h .first) (h .second) ev p gp not13 (h .ends) anyTime q)
+      givenHere inSilence q = by (silence (isAbout cic) x y) refl
+        where
+          by : (b : Bool) → silence (isAbout cic) x y ≡ b → HoldsPair own far cic (cond b (acted (steps own far cic (x .holds) cic ev p) (x .coming) y) (x, y))
+          by true s = inQuiet x y (h .first) (h .second) ev p gp not13 (h .ends) q (subst T (sym s) tt)
+          by false s = h
+      givenHere losingAll q = actLosing x y (h .first) (h .second) ev p gp not13 (h .ends) q
+      givenHere never q = h
+
+    givenBeside : (i ≡ cic → ⊥) → (w : When) → Given i w
+    givenBeside other anyTime = besideIt own far cic (x .holds) (y .holds) (h .first) (h .second) i other ev p (x .coming) (y .coming) (h .ends)
+    givenBeside other inSilence = by (silence (isAbout i) x y)
+      where
+        by : (b : Bool) → HoldsPair own far cic (cond b (acted (steps own far cic (x .holds) i ev p) (x .coming) y) (x, y))
+        by true = besideIt own far cic (x .holds) (y .holds) (h .first) (h .second) i other ev p (x .coming) (y .coming) (h .ends)
+        by false = h
+    givenBeside other losingAll = besideIt own far cic (x .holds) (y .holds) (h .first) (h .second) i other ev p (without (isAbout i) (x .coming)) (without (isAbout i) (y .coming))
+        (subst₂ (λ (w v : List Signal). Holds (controls own far cic) (end (recordAt (x .holds) cic) w) (end (recordAt (y .holds) cic) v))
+        (sym (lostOthers own far (recordsIn (length (x .holds))) cic i other (x .coming))) (sym (lostOthers far own (recordsIn (length (y .holds))) cic i other (y .coming))) (h .ends))
+    givenBeside other never = h
+
+    -- the event is given only with good particulars and where it is not refused 13
+    givenIf : (g r : Bool) → good p ≡ g → refused13 own far cic (x .holds) i ev ≡ r → Given i (cond (g && not r) (whenGiven ev) never)
+    givenIf false r a b = h
+    givenIf true true a b = h
+    givenIf true false a b = go (eqb i cic) refl
+      where
+        go : (d : Bool) → eqb i cic ≡ d → Given i (whenGiven ev)
+        go true d = let is : i ≡ cic = eqb-true i cic d in subst (λ (j : ℕ). Given j (whenGiven ev)) (sym is)
+            (givenHere (subst T (sym a) tt) (eqb-false _ 13 (subst (λ (j : ℕ). refused13 own far cic (x .holds) j ev ≡ false) is b)) (whenGiven ev) refl)
+        go false d = givenBeside (eqb-false i cic d) (whenGiven ev)
+
+  -- octets that neither exchange wrote
+  strange : (x y : Exchange) → LinkHolds own far cic x y → (m : Message) (b : Bool) → isAbout cic m ≡ b
+      → HoldsPair own far cic (given (exchangeActs own far cic) (cond b never anyTime) (foreign m) x y)
+  strange x y h m true e = h
+  strange x y h m false e = record {
+    first = h .first;
+    second = h .second;
+    ends = subst (λ (l : List Signal). Holds (controls own far cic) (endAt own far cic x) (end (recordAt (y .holds) cic) l)) (sym (foreignLast far own (recordsIn (length (y .holds))) cic (y .coming) m e)) (h .ends);
+  }
+
+  pub keepsLink : (x y : Exchange) (g : Happening Gift) → LinkHolds own far cic x y → HoldsPair own far cic (turn (exchangeActs own far cic) g x y)
+  keepsLink x y arrives h = keepsArrival (x .holds) (x .coming) y h
+  keepsLink x y (host (event i kind code detail p)) h = givenIf x y h i kind code detail p (good p) (refused13 own far cic (x .holds) i (eventOf kind code detail)) refl refl
+  keepsLink x y (host (foreign m)) h = strange x y h m (isAbout cic m) refl
+
+-- AT THE START
+
+-- a restart frees no circuit, so it is never refused 13
+notThirteen : (own far cic : ℕ) (table : List ℕ) → Has own far cic table → T (allowedAt table cic) → stepIn own far table cic (Is (Ordered Restart)) .answer .refusal ≡ 13 → ⊥
+notThirteen own far cic table h a e =
+    behind (recordAt table cic) (Is (Ordered Restart)) false 13 (lit≤ tt) (sym asked ∙ (sym (refusals own far table cic (Is (Ordered Restart))) ∙ e)) .1
+  where
+    asked : refusalIn own far table cic (Is (Ordered Restart)) ≡ firstOf (foundRules (recordAt table cic) (Is (Ordered Restart)) ++ (refuse 13 false ∷ []))
+    asked = rw (h .group, lt-leb (recordsIn (length table)) cic (h .circuit), isTrue (allowedAt table cic) a) refl
+
+module _ (own far cic : ℕ) where
+  idleThere : (table : List ℕ) → IdleAt cic table → recordAt table cic ≡ plain 0
+  unfolding recordOf
+  idleThere table i = rw (i .state, i .flags) refl
+
+  goodIdle : (table : List ℕ) → Has own far cic table → IdleAt cic table → Good own far cic table
+  goodIdle table h i = record { has = h; low = rw (i .flags) (lit≤ tt) }
+
+  goodAllowed : (table : List ℕ) → Has own far cic table → T (allowedAt table cic) → Good own far cic table
+  goodAllowed table h a = record { has = h; low = lowFlags table cic a }
+
+startIdle : (own far cic : ℕ) (x y : Exchange) → Has own far cic (x .holds) → Has far own cic (y .holds) → IdleAt cic (x .holds) → IdleAt cic (y .holds)
+    → T (silence (isAbout cic) x y) → LinkHolds own far cic x y
+startIdle own far cic x y hx hy ix iy t = record {
+  first = goodIdle own far cic (x .holds) hx ix;
+  second = goodIdle far own cic (y .holds) hy iy;
+  ends = subst₂ (Holds (controls own far cic)) (sym ex) (sym ey) (idles (controls own far cic));
+}
+  where
+    ex : endAt own far cic x ≡ idle
+    ex = rw (idleThere own far cic (x .holds) ix, silent own far (recordsIn (length (x .holds))) cic (x .coming) (left (none (isAbout cic) (x .coming)) _ t)) refl
+
+    ey : endAt far own cic y ≡ idle
+    ey = rw (idleThere far own cic (y .holds) iy, silent far own (recordsIn (length (y .holds))) cic (y .coming) (right (none (isAbout cic) (x .coming)) _ t)) refl
+
+startRestarted : (own far cic : ℕ) (x y : Exchange) → Has own far cic (x .holds) → Has far own cic (y .holds) → T (allowedAt (x .holds) cic) → T (allowedAt (y .holds) cic)
+    → HoldsPair own far cic (turn (exchangeActs own far cic) (restartOf cic) x y)
+unfolding eventOf
+startRestarted own far cic x y hx hy ax ay = go (refused13 own far cic (x .holds) cic (Is (Ordered Restart))) refl
+  where
+    not13 : stepIn own far (x .holds) cic (Is (Ordered Restart)) .answer .refusal ≡ 13 → ⊥
+    not13 = notThirteen own far cic (x .holds) hx ax
+
+    g : Good own far cic (x .holds)
+    g = goodAllowed own far cic (x .holds) hx ax
+
+    k : Good far own cic (y .holds)
+    k = goodAllowed far own cic (y .holds) hy ay
+
+    done : HoldsPair own far cic (given (exchangeActs own far cic) losingAll (event cic 2 10 0 plainly) x y)
+    done = lose own far cic x y g k (Is (Ordered Restart)) plainly plainlyGood not13
+        (restarts (controls own far cic) (end (recordAt (x .holds) cic) []) (end (recordAt (y .holds) cic) []) (validAt (x .holds) cic ax) (validAt (y .holds) cic ay))
+
+    go : (r : Bool) → refused13 own far cic (x .holds) cic (Is (Ordered Restart)) ≡ r
+        → HoldsPair own far cic (given (exchangeActs own far cic) (cond (good plainly && not r) losingAll never) (event cic 2 10 0 plainly) x y)
+    go true q = absurd (not13 (eqb-true _ 13 q))
+    go false q = rw (isTrue (good plainly) plainlyGood) done
+
+-- THE OTHER WAY ROUND
+
+-- two codes of a group are different
+pub different : (own far records : ℕ) → badGroup own far records ≡ false → own ≡ far → ⊥
+different own far records good same = go (badCode own) (badCode far) (eqb own far) (eq-eqb own far same) (eqb records 0 || ltb 4096 records) good
+  where
+    go : (a b d : Bool) → d ≡ true → (e : Bool) → (a || b || d || e) ≡ false → ⊥
+    go true b d t e f = true≢false f
+    go false true d t e f = true≢false f
+    go false false true t e f = true≢false f
+    go false false false t e f = false≢true t
+
+turnedRound : (own far cic : ℕ) (x y : Exchange) → LinkHolds own far cic x y → LinkHolds far own cic y x
+turnedRound own far cic x y h = record {
+  first = h .second;
+  second = h .first;
+  ends = subst (λ (c : Bool). Holds c (endAt far own cic y) (endAt own far cic x))
+      (sym (oneControls own far cic (different own far (recordsIn (length (x .holds))) (h .first .has .group))))
+      (changed (controls own far cic) (endAt own far cic x) (endAt far own cic y) (h .ends));
+}
+
+-- WHAT HOLDS OF EXCHANGES THAT ARE REACHED
+
+module _ (own far cic : ℕ) where
+  started : (x y : Exchange) → LinkStart own far cic x y → LinkHolds own far cic x y
+  started x y (idleAtBoth p q hx hy ix iy t) = startIdle own far cic p q hx hy ix iy t
+  started x y (firstRestarted p q hx hy ax ay) = startRestarted own far cic p q hx hy ax ay
+  started x y (secondRestarted p q hx hy ax ay) =
+      turnedRound far own cic (turn (exchangeActs far own cic) (restartOf cic) q p .0) (turn (exchangeActs far own cic) (restartOf cic) q p .1) (startRestarted far own cic q p hy hx ay ax)
+
+  keepsSecond : (x y : Exchange) (g : Happening Gift) → LinkHolds own far cic x y → LinkHolds own far cic (turn (exchangeActs far own cic) g y x .1) (turn (exchangeActs far own cic) g y x .0)
+  keepsSecond x y g h = turnedRound far own cic (turn (exchangeActs far own cic) g y x .0) (turn (exchangeActs far own cic) g y x .1) (keepsLink far own cic y x g (turnedRound own far cic x y h))
+
+  pub linkHolds : {x y : Exchange} → ExchangesCome own far cic x y → LinkHolds own far cic x y
+  linkHolds = always (LinkHolds own far cic) started (keepsLink own far cic) keepsSecond
+
+-- the two exchanges change places
+pub mirrorLink : {own far cic : ℕ} {x y : Exchange} → ExchangesCome own far cic x y → ExchangesCome far own cic y x
+mirrorLink {own} {far} {cic} = mirror turns
+  where
+    turns : (x y : Exchange) → LinkStart own far cic x y → LinkStart far own cic y x
+    turns x y (idleAtBoth p q hx hy ix iy t) = idleAtBoth q p hy hx iy ix (bothWays (none (isAbout cic) (p .coming)) (none (isAbout cic) (q .coming)) t)
+      where
+        bothWays : (a b : Bool) → T (a && b) → T (b && a)
+        bothWays true true t = tt
+        bothWays true false t = absurd t
+        bothWays false b t = absurd t
+    turns x y (firstRestarted p q hx hy ax ay) = secondRestarted q p hy hx ay ax
+    turns x y (secondRestarted p q hx hy ax ay) = firstRestarted q p hy hx ay ax
+
+-- DEMAND 3 OVER THE LINK
+
+pub exchangesAgree : ClaimOver
+unfolding ClaimOver
+exchangesAgree own far cic x y r t wx wy = record { call = a .call; blockOfFirst = a .blockOfFirst; blockOfSecond = a .blockOfSecond }
+  where
+    h : LinkHolds own far cic x y
+    h = linkHolds own far cic r
+
+    a : Agree (endAt own far cic x) (endAt far own cic y)
+    a = agreed (controls own far cic) (endAt own far cic x) (endAt far own cic y) (h .ends)
+        (silent own far (recordsIn (length (x .holds))) cic (x .coming) (left (none (isAbout cic) (x .coming)) _ t))
+        (silent far own (recordsIn (length (y .holds))) cic (y .coming) (right (none (isAbout cic) (x .coming)) _ t)) wx wy
