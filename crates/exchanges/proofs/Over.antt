@@ -38,7 +38,7 @@ use Rattle.group.proofs.Laws.{Carries, Same, byCases, others, keepsLength, isSt
 use Rattle.group.proofs.Valid.{lowFlags, validAt, behind}
 use Rattle.reader.specs.declared.Fields.{Fields}
 use Rattle.reader.specs.Places.{cicIn, headingIn, sixBitsIn}
-use Rattle.reader.specs.Reading.{readRules, fieldsIn, unless, fieldsOf}
+use Rattle.reader.specs.Reading.{readRules, fieldsIn, unless, fieldsOf, reading}
 use Rattle.formats.specs.Messages.{isIam, isAcm}
 use Rattle.writer.specs.Writing.{badAddress}
 use Rattle.tup.specs.Entries.{fieldsOctets, Told, readInto}
@@ -46,11 +46,12 @@ use Rattle.tup.proofs.Entries.{refuses, fills}
 use Rattle.inverse.proofs.Numbers.{numberBack}
 use Rattle.inverse.proofs.Refusals.{readRefusal}
 use Rattle.ends.specs.Machine.{Both, acted, arrival, When, When.anyTime, When.inSilence, When.losingAll, When.never, whenGiven, none, without, silence, given, spared, Happening, Happening.arrives, Happening.host, turn}
-use Rattle.ends.specs.Ends.{End, end, idle, inOrder, does, seen, endActs, Agree}
+use Rattle.ends.specs.Ends.{End, end, idle, inOrder, does, seen, endActs, Agree, unheard as neverHeard}
 use Rattle.ends.proofs.Machine.{always, mirror, allLost}
 use Rattle.ends.proofs.Words.{heard, heard-more}
 use Rattle.ends.proofs.Standing.{Holds, changed, sameWords, idles, restarts, keeps}
 use Rattle.ends.proofs.Claim.{agreed}
+use Rattle.ends.proofs.Heard.{nextHeard}
 use Rattle.exchanges.specs.Link.{Message, Exchange, isAbout, Particulars, good, writesAll, plainly, Gift, Gift.event, Gift.foreign, steps, refused13, reads, circuitIn, signalIn, taking, sticking, exchangeActs, Has, IdleAt, restartOf, LinkStart, LinkStart.idleAtBoth, LinkStart.firstRestarted, LinkStart.secondRestarted, ExchangesCome, ClaimOver}
 use Rattle.exchanges.proofs.Sent.{below, circuitRead, named, heardIn}
 use Rattle.exchanges.proofs.Seen.{seenIn, signals, signals-more, silent, lostAll, lostOthers, foreignLast, sentBeside, sentHere}
@@ -528,3 +529,19 @@ exchangesAgree own far cic x y r t wx wy = record { call = a .call; blockOfFirst
     a = agreed (controls own far cic) (endAt own far cic x) (endAt far own cic y) (h .ends)
         (silent own far (recordsIn (length (x .holds))) cic (x .coming) (left (none (isAbout cic) (x .coming)) _ t))
         (silent far own (recordsIn (length (y .holds))) cic (y .coming) (right (none (isAbout cic) (x .coming)) _ t)) wx wy
+
+-- the message at the head of the queue, if it is the circuit's: its signal is none that never arrives there
+pub headHeard : (own far cic : ℕ) (table : List ℕ) (m : Message) (rest : List Message) (y : Exchange) → ExchangesCome own far cic (record { holds = table; coming = m ∷ rest }) y
+    → let r = reading own far (recordsIn (length table)) m in
+    (s : Signal) → r .refusal ≡ 0 → r .message .circuit .0 ≡ cic → r .message .signal ≡ Known s → T (not (neverHeard (recordAt table cic .state) s))
+headHeard own far cic table m rest y q s z is says =
+    nextHeard (controls own far cic) (endAt own far cic (record { holds = table; coming = m ∷ rest })) (endAt far own cic y) (linkHolds own far cic q .ends) s
+    (signals own far (recordsIn (length table)) cic rest) (ap (λ (l : List Signal). l ++ signals own far (recordsIn (length table)) cic rest) seen)
+  where
+    f : Fields
+    f = fieldsOf own far (recordsIn (length table)) m
+
+    seen : seenIn own far (recordsIn (length table)) cic m ≡ s ∷ []
+    seen = ap (λ (b : Bool). cond b (heardIn f) []) (eq-eqb (cicIn m) cic (sym (circuitRead own far (recordsIn (length table)) m z) ∙ is))
+        ∙ ap (λ (b : Bool). cond b (named (signalOf (f .heading) (f .acm))) []) (eq-eqb (f .refusal) 0 z)
+        ∙ ap named says

@@ -22,7 +22,7 @@ use Rattle.formats.specs.Octets.{aboveFifteen}
 use Rattle.formats.specs.Messages.{listed, isIam, isAcm, half}
 use Rattle.reader.specs.declared.Fields.{Fields}
 use Rattle.reader.specs.Places.{cicIn, headingIn}
-use Rattle.reader.specs.Reading.{readRules, plainFields, iamFields, fieldsIn, unless, fieldsOf}
+use Rattle.reader.specs.Reading.{readRules, plainFields, iamFields, fieldsIn, unless, fieldsOf, reading}
 use Rattle.writer.specs.Writing.{Said, tooLarge, badAddress, octetsOf, writeRules}
 use Rattle.writer.proofs.Tests.{few}
 use Rattle.tup.specs.Entries.{writeFrom}
@@ -33,7 +33,7 @@ use Rattle.inverse.proofs.ReadBack.{octetsRead, taking}
 use Rattle.inverse.proofs.Laws.{octetsLong}
 use Rattle.inverse.proofs.Host.{fromFilled}
 use Rattle.ends.proofs.Words.{word, heard}
-use Rattle.exchanges.specs.Link.{Particulars, goodAddress, good, saying, goesOut, writes}
+use Rattle.exchanges.specs.Link.{Particulars, goodAddress, good, saying, chosen, goesOut}
 
 isFalse : (b : Bool) → T (not b) → b ≡ false
 isFalse true t = absurd t
@@ -192,27 +192,74 @@ named Unknown = []
 abbrev pub heardIn : Fields → List Signal
 heardIn f = cond (eqb (f .refusal) 0) (named (signalOf (f .heading) (f .acm))) []
 
--- the fields of a signal's message name a signal with its word
+-- the fields of a signal's message name the signal
+pub names : (cic : ℕ) (p : Particulars) (s : Signal) → let f = fieldsSaid (saying cic (headingOf s) p) in
+    (f .refusal ≡ 0) × (f .circuit .0 ≡ cic) × (signalOf (f .heading) (f .acm) ≡ Known (chosen p s))
+names cic p Iam = (refl, refl, refl)
+names cic p (Acm octet) = (refl, refl, refl)
+names cic p Anc = (refl, refl, refl)
+names cic p Ann = (refl, refl, refl)
+names cic p Cbk = (refl, refl, refl)
+names cic p Clf = (refl, refl, refl)
+names cic p Ran = (refl, refl, refl)
+names cic p Rlg = (refl, refl, refl)
+names cic p Blo = (refl, refl, refl)
+names cic p Bla = (refl, refl, refl)
+names cic p Ubl = (refl, refl, refl)
+names cic p Uba = (refl, refl, refl)
+names cic p Rsc = (refl, refl, refl)
+names cic p (Fail Sec) = (refl, refl, refl)
+names cic p (Fail Cgc) = (refl, refl, refl)
+names cic p (Fail Nnc) = (refl, refl, refl)
+names cic p (Fail Adi) = (refl, refl, refl)
+names cic p (Fail Cfl) = (refl, refl, refl)
+names cic p (Fail Ssb) = (refl, refl, refl)
+names cic p (Fail Unn) = (refl, refl, refl)
+names cic p (Fail Los) = (refl, refl, refl)
+names cic p (Fail Sst) = (refl, refl, refl)
+
+wordChosen : (p : Particulars) (s : Signal) → word (chosen p s) ≡ word s
+wordChosen p Iam = refl
+wordChosen p (Acm octet) = refl
+wordChosen p Anc = refl
+wordChosen p Ann = refl
+wordChosen p Cbk = refl
+wordChosen p Clf = refl
+wordChosen p Ran = refl
+wordChosen p Rlg = refl
+wordChosen p Blo = refl
+wordChosen p Bla = refl
+wordChosen p Ubl = refl
+wordChosen p Uba = refl
+wordChosen p Rsc = refl
+wordChosen p (Fail f) = refl
+
+-- a signal with its word
 pub sameWord : (cic : ℕ) (s : Signal) (p : Particulars) → heard (heardIn (fieldsSaid (saying cic (headingOf s) p))) ≡ word s ∷ []
-sameWord cic Iam p = refl
-sameWord cic (Acm octet) p = refl
-sameWord cic Anc p = refl
-sameWord cic Ann p = refl
-sameWord cic Cbk p = refl
-sameWord cic Clf p = refl
-sameWord cic Ran p = refl
-sameWord cic Rlg p = refl
-sameWord cic Blo p = refl
-sameWord cic Bla p = refl
-sameWord cic Ubl p = refl
-sameWord cic Uba p = refl
-sameWord cic Rsc p = refl
-sameWord cic (Fail Sec) p = refl
-sameWord cic (Fail Cgc) p = refl
-sameWord cic (Fail Nnc) p = refl
-sameWord cic (Fail Adi) p = refl
-sameWord cic (Fail Cfl) p = refl
-sameWord cic (Fail Ssb) p = refl
-sameWord cic (Fail Unn) p = refl
-sameWord cic (Fail Los) p = refl
-sameWord cic (Fail Sst) p = refl
+sameWord cic s p =
+    let f = fieldsSaid (saying cic (headingOf s) p) in
+    let n = names cic p s in
+    ap (λ (b : Bool). heard (cond b (named (signalOf (f .heading) (f .acm))) [])) (eq-eqb (f .refusal) 0 (n .0))
+    ∙ ap (λ (k : Named). heard (named k)) (n .2)
+    ∙ ap (λ (k : ℕ). k ∷ []) (wordChosen p s)
+
+-- What an exchange writes for a signal with good particulars, the other end, in its own group that has the circuit, reads as that signal.
+pub sentIsRead : (own far count cic : ℕ) → badGroup own far count ≡ false → cic < count → (p : Particulars) → T (good p)
+    → (theirs : ℕ) → badGroup far own theirs ≡ false → cic < theirs → (s : Signal)
+    → let w = writeFrom own far count (saying cic (headingOf s) p) (p .buffer) in
+    let r = reading far own theirs (take (w .answer / 256) (w .buffer)) in
+    (w .answer % 256 ≡ 0) × (r .refusal ≡ 0) × (r .message .circuit .0 ≡ cic) × (r .message .signal ≡ Known (chosen p s))
+sentIsRead own far count cic group has p g theirs group' has' s =
+    let m = saying cic (headingOf s) p in
+    let ok = accepted own far count cic group has p g s in
+    let w = writeFrom own far count m (p .buffer) in
+    let filled = fromFilled own far count m (p .buffer) ok in
+    let octets : take (w .answer / 256) (w .buffer) ≡ octetsOf own far m = ap (λ (n : ℕ). take n (w .buffer)) (filled .0) ∙ filled .1 .start in
+    let back = ap (fieldsOf far own theirs) octets ∙ octetsRead own far count m (length (p .buffer)) (writerTakes own far count cic group has p g s) theirs group' has' in
+    let n = names cic p s in
+    (
+      ok,
+      ap (λ (f : Fields). f .refusal) back ∙ n .0,
+      ap (λ (f : Fields). f .circuit .0) back ∙ n .1,
+      ap (λ (f : Fields). signalOf (f .heading) (f .acm)) back ∙ n .2,
+    )

@@ -9,6 +9,7 @@ use Prim.Native.Nat.{ℕ, _/_, _%_, _<_}
 use lib.Dec.{T, eqb, leb}
 use lib.ListN.{length, getD, take, replicate}
 use Rattle.circuit.specs.declared.Signal.{Signal}
+use Rattle.circuit.specs.declared.Signal.the-variants.{Iam, Acm, Anc, Ann, Cbk, Clf, Ran, Rlg, Blo, Bla, Ubl, Uba, Rsc, Fail}
 use Rattle.circuit.specs.Groups.{badGroup}
 use Rattle.codes.specs.declared.Found.{Found}
 use Rattle.codes.specs.Headings.{headingOf}
@@ -58,6 +59,23 @@ abbrev pub saying : (cic heading : ℕ) → Particulars → Said
 saying cic heading p =
     said cic heading (cond (isAcm heading) (p .acm) 0)
     (cond (isIam heading) (p .category) 0) (cond (isIam heading) (p .indicators) 0) (cond (isIam heading) (p .address) [])
+
+-- the signal that is told: an ACM has the octet that the host chooses
+abbrev pub chosen : Particulars → Signal → Signal
+chosen p Iam = Iam
+chosen p (Acm octet) = Acm (p .acm)
+chosen p Anc = Anc
+chosen p Ann = Ann
+chosen p Cbk = Cbk
+chosen p Clf = Clf
+chosen p Ran = Ran
+chosen p Rlg = Rlg
+chosen p Blo = Blo
+chosen p Bla = Bla
+chosen p Ubl = Ubl
+chosen p Uba = Uba
+chosen p Rsc = Rsc
+chosen p (Fail f) = Fail f
 
 -- what goes out: the octets that the writer put into the buffer, as many as it said; nothing where it refused
 abbrev pub goesOut : Told → List Message
