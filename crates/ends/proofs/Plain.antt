@@ -2,7 +2,7 @@
 -- Assumes nothing.
 use mathlib.Core.Bool.{Bool, true, false, not, _&&_, _||_}
 use mathlib.Core.Logic.{_⊎_, inl, inr}
-use mathlib.Core.Path.{_≡_, refl, subst₂, sym}
+use mathlib.Core.Path.{_≡_, refl, subst, subst₂, sym}
 use Prim.Native.Nat.{ℕ}
 use lib.Dec.{T, eqb, eqb→eq}
 use borrow.Author.Tests.{ne-eqb}
@@ -61,3 +61,18 @@ unheardRlg s h k = rw (ne-eqb s 5 h, ne-eqb s 12 k) tt
 pub notBoth : (b : Bool) → T b → T (not b) → ⊥
 notBoth true t n = n
 notBoth false t n = t
+
+-- no stage has an end in 5, so an end that rests there is opposite one in 12
+no5 : (t : ℕ) → T (sameStage 5 t || sameStage t 5) → ⊥
+no5 t = rw (nor (eqb t 0), nor (eqb t 1), nor (eqb t 2), nor (eqb t 3), nor (eqb t 4)) (λ h. h)
+  where
+    nor : (a : Bool) → (a && false) ≡ false
+    nor true = refl
+    nor false = refl
+
+pub opposite12 : (s t : ℕ) → (T (not (awaitsReset s)) → T (not (awaitsReset t)) → T (sameStage s t || sameStage t s)) → s ≡ 5 → t ≡ 12
+opposite12 s t k five = go (eqb t 12) refl
+  where
+    go : (b : Bool) → eqb t 12 ≡ b → t ≡ 12
+    go true e = eqb→eq t 12 (subst T (sym e) tt)
+    go false e = absurd (no5 t (rw five at (k (rw five tt) (rw e tt))))

@@ -18,7 +18,7 @@ use Rattle.codes.specs.declared.Found.{Found}
 use Rattle.codes.specs.declared.Found.the-variants.{Is}
 use Rattle.ends.specs.Machine.{acted, arrival, When, When.anyTime, When.inSilence, When.losingAll, When.never, whenGiven, none, silence, given, Happening, Happening.arrives, Happening.host, turn}
 use Rattle.ends.specs.Ends.{End, end, idle, Pair, inOrder, does, seen, endActs, restart, Start, Start.bothIdle, Start.firstRestarted, Start.secondRestarted, EndsCome}
-use Rattle.ends.proofs.Machine.{always, allLost}
+use Rattle.ends.proofs.Machine.{always, mirror, allLost}
 use Rattle.ends.proofs.Words.{word, heard, heard-more, Run.ran}
 use Rattle.ends.proofs.Events.{isWord}
 use Rattle.ends.proofs.Moves.{moveOf, Table, causeOf, byCause, columns, look, completed, word-listed, host-listed}
@@ -155,3 +155,12 @@ module _ (c : Bool) where
 pub inAnyGroup : (own far cic : ℕ) → (own ≡ far → ⊥) → {x y : End} → EndsCome (controls own far cic) (controls far own cic) x y → Holds (controls own far cic) x y
 inAnyGroup own far cic different {x} {y} r =
     holds (controls own far cic) (subst (λ (b : Bool). EndsCome (controls own far cic) b x y) (oneControls own far cic different) r)
+
+-- the two ends change places
+pub mirrorEnds : {a b : Bool} {x y : End} → EndsCome a b x y → EndsCome b a y x
+mirrorEnds {a} {b} = mirror turns
+  where
+    turns : (x y : End) → Start a b x y → Start b a y x
+    turns x y bothIdle = bothIdle
+    turns x y (firstRestarted p q v w) = secondRestarted q p w v
+    turns x y (secondRestarted p q v w) = firstRestarted q p w v

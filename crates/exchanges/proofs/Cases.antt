@@ -2,18 +2,19 @@
 -- Assumes nothing.
 use mathlib.Core.Path.{_≡_, refl, ap, _∙_}
 use mathlib.Core.List.{List, [], _∷_, _++_}
-use Prim.Native.Nat.{ℕ}
+use Prim.Native.Nat.{ℕ, _<_}
 use Rattle.circuit.specs.Rows.{first}
 use Rattle.codes.specs.Numbers.{eventOf}
 use Rattle.step.specs.Step.{step, stepFound}
 use Rattle.words.specs.Words.{number, put}
 use Rattle.layout.specs.Layout.{recordsIn, counterIn, stateAt, flagsAt, rankAt, recordOf, flagsOf, putOctets, putRank, putCounter}
+use Rattle.layout.proofs.Laws.{idleState, idleFlags}
 use Rattle.group.specs.Table.{stepIn}
 use Rattle.reader.specs.Reading.{fieldsOf}
 use Rattle.writer.specs.Writing.{tooLarge, badAddress, octetsOf, writing}
 use Rattle.tup.specs.Entries.{readInto}
-use Rattle.ends.specs.Machine.{Both, Reached.atFirst, Reached.atSecond}
-use Rattle.exchanges.specs.Link.{Message, Exchange, good, ExchangesCome}
+use Rattle.ends.specs.Machine.{Both, Reached.start, Reached.atFirst, Reached.atSecond}
+use Rattle.exchanges.specs.Link.{Message, Exchange, good, LinkStart.idleAtBoth, ExchangesCome}
 use Rattle.exchanges.specs.Cases.{Step, Step.A, Step.B, after, quiet, exchanges, two, crossing, restarting, arriving}
 
 -- both ACMs are on their way
@@ -45,3 +46,16 @@ pub goOn : (watched : ℕ) (steps : List Step) {x y : Exchange} → ExchangesCom
 goOn watched [] r = r
 goOn watched (A h ∷ steps) r = goOn watched steps (atFirst r h)
 goOn watched (B h ∷ steps) r = goOn watched steps (atSecond r h)
+
+pub shown : (watched : ℕ) → let x = after watched quiet quiet crossing in
+    let y = after watched (x .0) (x .1) restarting in
+    (x ≡ crossed) × (y ≡ restarted) × (after watched (y .0) (y .1) arriving ≡ settled)
+shown watched =
+    let e = crosses watched in
+    let f = ap (λ (p : Both (List ℕ) Message). after watched (p .0) (p .1) restarting) e ∙ restarts watched in
+    (e, f, ap (λ (p : Both (List ℕ) Message). after watched (p .0) (p .1) arriving) f ∙ settles watched)
+
+pub ran : (watched : ℕ) → watched < 2 → (steps : List Step) → ExchangesCome 2 1 watched (after watched quiet quiet steps .0) (after watched quiet quiet steps .1)
+unfolding recordsIn
+ran watched low steps = goOn watched steps (start (idleAtBoth quiet quiet (record { group = refl; circuit = low }) (record { group = refl; circuit = low })
+    (record { state = idleState 28 watched; flags = idleFlags 28 watched }) (record { state = idleState 28 watched; flags = idleFlags 28 watched }) tt))

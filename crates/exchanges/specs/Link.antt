@@ -33,6 +33,9 @@ Message = List ℕ
 abbrev pub Exchange : Type 0
 Exchange = Party (List ℕ) Message
 
+abbrev pub exchange : List ℕ → List Message → Exchange
+exchange table w = record { holds = table; coming = w }
+
 -- the circuit that a message's label names
 abbrev pub isAbout : ℕ → Message → Bool
 isAbout cic m = eqb (cicIn m) cic

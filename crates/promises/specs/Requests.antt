@@ -39,10 +39,12 @@ use Rattle.select.specs.Selection.{qualifies, selectIn}
 use Rattle.select.proofs.First.{someAt, noneAt}
 use Rattle.select.proofs.Laws as choices
 use Rattle.inverse.proofs.Refusals.{answered as givenExactly}
-use Rattle.ends.specs.Ends.{End, Reached}
-use Rattle.exchanges.specs.Tables.{Exchange, ReachedIn, endAt}
-use Rattle.exchanges.proofs.Tables.{endsOf, different}
+use Rattle.codes.specs.declared.Named.the-variants.{Known}
+use Rattle.reader.specs.Reading.{reading}
+use Rattle.ends.specs.Ends.{End, end, EndsCome}
+use Rattle.exchanges.specs.Link.{Message, Exchange, exchange, ExchangesCome}
 use Rattle.promises.specs.Demand3.{Never, neverNext}
+use Rattle.promises.specs.Demand3Link.{neverAtHead}
 
 -- T-01. REMEMBER WHEN A CIRCUIT WAS FREED
 
@@ -259,17 +261,16 @@ never rlg = Never.releaseGuard {p = 1} (λ e. omega arith) (λ e. omega arith)
 -- Between two ends of ours, whatever happens to them by the rules of `Demand3`, none of these ever arrives in state 1: what is the next to arrive at
 -- an end in state 1 is none of them. So the row is about other makers' exchanges alone.
 pub nonsenseNeverComes : (own far cic : ℕ) → (own ≡ far → ⊥)
-    → (r : Record) (s : Signal) (w : List Signal) (y : End) → Reached (controls own far cic) (controls far own cic) (record { holds = r; coming = s ∷ w }) y
+    → (r : Record) (s : Signal) (w : List Signal) (y : End) → EndsCome (controls own far cic) (controls far own cic) (end r (s ∷ w)) y
     → r .state ≡ 1 → Nonsense s → ⊥
 nonsenseNeverComes own far cic apart r s w y q one n = neverNext own far cic apart r s w y q (subst (Never s) (sym one) (never n))
 
--- the same of two exchanges with a table each, on any circuit that both have
-pub nonsenseNeverComesIn : (own far cic m n : ℕ) → badGroup own far (recordsIn m) ≡ false → badGroup far own (recordsIn n) ≡ false
-    → cic < recordsIn m → cic < recordsIn n
-    → (t : List ℕ) (s : Signal) (w : List Signal) (y : Exchange) → ReachedIn own far cic m n (record { holds = t; coming = s ∷ w }) y
+-- the same of two exchanges over a link, by the rules of `Demand3Link`: what the message at the head of the queue says on the circuit
+pub nonsenseNeverComesIn : (own far cic : ℕ) (t : List ℕ) (m : Message) (w : List Message) (y : Exchange) → ExchangesCome own far cic (exchange t (m ∷ w)) y
+    → let read = reading own far (recordsIn (length t)) m in
+    (s : Signal) → read .refusal ≡ 0 → read .message .circuit .0 ≡ cic → read .message .signal ≡ Known s
     → recordAt t cic .state ≡ 1 → Nonsense s → ⊥
-nonsenseNeverComesIn own far cic m n good good' has has' t s w y q one =
-    nonsenseNeverComes own far cic (different own far (recordsIn m) good) (recordAt t cic) s w (endAt cic y) (endsOf own far cic m n good good' has has' q) one
+nonsenseNeverComesIn own far cic t m w y q s taken on says one n = neverAtHead own far cic t m w y q s taken on says (subst (Never s) (sym one) (never n))
 
 -- T-06. SHOW THE RULES AS A TABLE
 
