@@ -4,7 +4,7 @@
 use mathlib.Core.Bool.{Bool, true, false, cond, not, _&&_, _||_}
 use mathlib.Core.List.{List, [], _∷_, _++_}
 use mathlib.Core.Logic.{_⊎_, inl, inr}
-use mathlib.Core.Path.{_≡_, refl, sym, subst, subst₂}
+use mathlib.Core.Path.{_≡_, refl, sym, ap, subst, subst₂}
 use Prim.Native.Nat.{ℕ, zero, suc}
 use lib.Dec.{T, eqb, eqb→eq}
 use Rattle.circuit.specs.declared.Record.{Record}
@@ -23,7 +23,7 @@ use Rattle.codes.specs.declared.Found.{Found}
 use Rattle.codes.specs.declared.Found.the-variants.{Is}
 use Rattle.step.specs.Step.{step, stepFound}
 use Rattle.step.proofs.Erred.{restartForgets}
-use Rattle.ends.specs.Machine.{silence, none}
+use Rattle.ends.specs.Machine.{none, Happening.host}
 use Rattle.ends.specs.Ends.{End, end, Pair, inOrder, does, marks, seen}
 use Rattle.ends.specs.Heals.{at, delivered, firstRepeats, repeated, Quiet, Healed, afterRestart, ClaimHeals, turns, ClaimArrives}
 use Rattle.ends.proofs.Machine.{allLost}
@@ -130,7 +130,7 @@ quiet p h = record {
   toSecond = isEmpty (p .1 .coming) (right (none (λ (s : Signal). true) (p .0 .coming)) _ h);
 }
 
-afterwards : (c : Bool) (x y : End) → T (valid (x .holds)) → afterRestart c x y ≡ (end restarted [], end (y .holds) (Rsc ∷ []))
+pub afterwards : (c : Bool) (x y : End) → T (valid (x .holds)) → afterRestart c x y ≡ (end restarted [], end (y .holds) (Rsc ∷ []))
 unfolding does stepFound
 afterwards c x y v = rw (restartForgets c (x .holds) v, allLost (x .coming), allLost (y .coming)) refl
 
@@ -210,3 +210,21 @@ restartHealsAll = inGroup
 pub allArrives : ClaimArrives
 unfolding ClaimArrives
 allArrives = inTurns
+
+-- where timer 4 runs out
+module _ (a b : Bool) (r t : Record) where
+  abbrev quietPair : Pair
+  quietPair = (end r [], end t [])
+
+  abbrev timer4 : Found
+  timer4 = Is (RunsOut Repeat)
+
+  pub repeatsFirst : firstRepeats a b quietPair ≡ true
+      → repeated a b quietPair ≡ (end (stepFound a r timer4 .after) [], end t (inOrder (stepFound a r timer4 .sends)))
+  unfolding repeated does
+  repeatsFirst e = ap (λ (f : Bool). at a b f (host timer4) quietPair) e
+
+  pub repeatsSecond : firstRepeats a b quietPair ≡ false
+      → repeated a b quietPair ≡ (end r (inOrder (stepFound b t timer4 .sends)), end (stepFound b t timer4 .after) [])
+  unfolding repeated does
+  repeatsSecond e = ap (λ (f : Bool). at a b f (host timer4) quietPair) e

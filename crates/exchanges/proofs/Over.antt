@@ -174,7 +174,7 @@ module _ (own far cic : ℕ) (table u : List ℕ) (g : Good own far cic table) (
 
 -- A MESSAGE ARRIVES
 
-plainlyGood : T (good plainly)
+pub plainlyGood : T (good plainly)
 unfolding good badAddress
 plainlyGood = tt
 
@@ -411,7 +411,7 @@ module _ (own far cic : ℕ) where
 -- AT THE START
 
 -- a restart frees no circuit, so it is never refused 13
-notThirteen : (own far cic : ℕ) (table : List ℕ) → Has own far cic table → T (allowedAt table cic) → stepIn own far table cic (Is (Ordered Restart)) .answer .refusal ≡ 13 → ⊥
+pub notThirteen : (own far cic : ℕ) (table : List ℕ) → Has own far cic table → T (allowedAt table cic) → stepIn own far table cic (Is (Ordered Restart)) .answer .refusal ≡ 13 → ⊥
 notThirteen own far cic table h a e =
     behind (recordAt table cic) (Is (Ordered Restart)) false 13 (lit≤ tt) (sym asked ∙ (sym (refusals own far table cic (Is (Ordered Restart))) ∙ e)) .1
   where

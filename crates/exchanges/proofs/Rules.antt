@@ -3,16 +3,24 @@
 use mathlib.Core.Path.{_≡_, refl, subst}
 use mathlib.Core.Bool.{Bool, true, false, cond, not, _&&_}
 use mathlib.Core.List.{List, [], _∷_, _++_, append-nil}
-use Prim.Native.Nat.{ℕ}
+use Prim.Native.Nat.{ℕ, _<_}
 use lib.Dec.{T, eqb}
+use lib.ListN.{length}
 use borrow.Author.Tests.{eq-eqb, ne-eqb}
+use Rattle.circuit.specs.declared.Command.the-variants.{Restart}
+use Rattle.circuit.specs.declared.Event.the-variants.{Ordered}
+use Rattle.circuit.specs.Groups.{badGroup}
 use Rattle.circuit.proofs.Every.{both, isTrue}
 use Rattle.codes.specs.declared.Found.{Found}
+use Rattle.codes.specs.declared.Found.the-variants.{Is}
 use Rattle.codes.specs.Numbers.{eventOf}
+use Rattle.layout.specs.Layout.{recordsIn, allowedAt}
 use Rattle.group.specs.Table.{stepIn}
 use Rattle.tup.specs.Entries.{Told}
-use Rattle.ends.specs.Machine.{Both, Effect, When, When.anyTime, When.inSilence, When.losingAll, When.never, whenGiven, none, acted, Happening.arrives, Happening.host, given, Reached.atFirst}
-use Rattle.exchanges.specs.Link.{Message, Exchange, exchange, isAbout, Particulars, good, plainly, Gift.event, Gift.foreign, steps, refused13, reads, circuitIn, signalIn, exchangeActs, ExchangesCome}
+use Rattle.ends.specs.Machine.{Both, Effect, When, When.anyTime, When.inSilence, When.losingAll, When.never, whenGiven, none, without, acted, Happening.arrives, Happening.host, given, Reached.start, Reached.atFirst}
+use Rattle.ends.specs.Ends.{inOrder}
+use Rattle.exchanges.specs.Link.{Message, Exchange, exchange, isAbout, Particulars, good, writesAll, plainly, Gift.event, Gift.foreign, steps, refused13, reads, circuitIn, signalIn, exchangeActs, Has, LinkStart.firstRestarted, ExchangesCome}
+use Rattle.exchanges.proofs.Over.{plainlyGood, notThirteen}
 
 module _ (own far cic : ℕ) (t u : List ℕ) (w v : List Message) where
   abbrev Come : Both (List ℕ) Message → Type 0
@@ -67,3 +75,20 @@ module _ (own far cic : ℕ) (t u : List ℕ) (w v : List Message) where
   pub strangers : (m : Message) → isAbout cic m ≡ false → At w → ExchangesCome own far cic (exchange t w) (exchange u (v ++ (m ∷ [])))
   strangers m other q = subst (λ (b : Bool). Come (given (exchangeActs own far cic) (cond b never anyTime) (foreign m) (exchange t w) (exchange u v))) other
       (atFirst q (host (foreign m)))
+
+-- a restart from any legal record of the circuit
+pub restarting : (own far cic : ℕ) (t u : List ℕ) (w v : List Message)
+    → badGroup own far (recordsIn (length t)) ≡ false → cic < recordsIn (length t) → badGroup far own (recordsIn (length u)) ≡ false → cic < recordsIn (length u)
+    → T (allowedAt t cic) → T (allowedAt u cic)
+    → ExchangesCome own far cic (exchange (stepIn own far t cic (eventOf 2 10 0) .table) (without (isAbout cic) w))
+    (exchange u (without (isAbout cic) v ++ writesAll own far (recordsIn (length t)) cic plainly (inOrder (stepIn own far t cic (eventOf 2 10 0) .answer .sends))))
+unfolding eventOf
+restarting own far cic t u w v g h g' h' a a' =
+    subst (λ (b : Bool). Come own far cic t u w v (given (exchangeActs own far cic) (cond b losingAll never) (event cic 2 10 0 plainly) (exchange t w) (exchange u v))) allowed
+    (start (firstRestarted (exchange t w) (exchange u v) here (record { group = g'; circuit = h' }) a a'))
+  where
+    here : Has own far cic t
+    here = record { group = g; circuit = h }
+
+    allowed : (good plainly && not (refused13 own far cic t cic (Is (Ordered Restart)))) ≡ true
+    allowed = rw (isTrue (good plainly) plainlyGood, ne-eqb (stepIn own far t cic (Is (Ordered Restart)) .answer .refusal) 13 (notThirteen own far cic t here a)) refl

@@ -2,5 +2,6 @@ pub mod Demand1
 pub mod Demand2
 pub mod Demand3
 pub mod Demand3Link
+pub mod Restarts
 pub mod Requests
 pub mod Contracts
