@@ -52,9 +52,9 @@ use Rattle.ends.proofs.Words.{heard, heard-more}
 use Rattle.ends.proofs.Standing.{Holds, changed, sameWords, idles, restarts, keeps}
 use Rattle.ends.proofs.Claim.{agreed}
 use Rattle.ends.proofs.Heard.{nextHeard}
-use Rattle.exchanges.specs.Link.{Message, Exchange, isAbout, Particulars, good, writesAll, plainly, Gift, Gift.event, Gift.foreign, steps, refused13, reads, circuitIn, signalIn, taking, sticking, exchangeActs, Has, IdleAt, restartOf, LinkStart, LinkStart.idleAtBoth, LinkStart.firstRestarted, LinkStart.secondRestarted, ExchangesCome, ClaimOver}
+use Rattle.exchanges.specs.Link.{Message, Exchange, isAbout, Particulars, good, writesAll, plainly, Gift, Gift.event, Gift.heedless, Gift.foreign, Gift.losses, steps, refused13, reads, circuitIn, signalIn, taking, sticking, exchangeActs, Has, IdleAt, restartOf, LinkStart, LinkStart.idleAtBoth, LinkStart.firstRestarted, LinkStart.secondRestarted, ExchangesCome, ClaimOver}
 use Rattle.exchanges.proofs.Sent.{below, circuitRead, named, heardIn}
-use Rattle.exchanges.proofs.Seen.{seenIn, signals, signals-more, silent, lostAll, lostOthers, foreignLast, sentBeside, sentHere}
+use Rattle.exchanges.proofs.Seen.{seenIn, signals, signals-more, silent, lostAll, lostBeside, lostOthers, foreignLast, sentBeside, sentHere}
 
 -- a table of a good group that has the circuit, with flags there
 record Good (own far cic : ℕ) (table : List ℕ) : Type 0 where
@@ -403,9 +403,41 @@ module _ (own far cic : ℕ) where
     ends = subst (λ (l : List Signal). Holds (controls own far cic) (endAt own far cic x) (end (recordAt (y .holds) cic) l)) (sym (foreignLast far own (recordsIn (length (y .holds))) cic (y .coming) m e)) (h .ends);
   }
 
+  -- messages of other circuits are lost
+  lostOnTheLink : (x y : Exchange) → LinkHolds own far cic x y → (such : Message → Bool)
+      → HoldsPair own far cic (given (exchangeActs own far cic) losingAll (losses such) x y)
+  lostOnTheLink x y h such = record {
+    first = h .first;
+    second = h .second;
+    ends = subst₂ (λ (w v : List Signal). Holds (controls own far cic) (end (recordAt (x .holds) cic) w) (end (recordAt (y .holds) cic) v))
+        (sym (lostBeside own far (recordsIn (length (x .holds))) cic gone other (x .coming)))
+        (sym (ap (signals far own (recordsIn (length (y .holds))) cic) (append-nil (without gone (y .coming))) ∙ lostBeside far own (recordsIn (length (y .holds))) cic gone other (y .coming)))
+        (h .ends);
+  }
+    where
+      gone : Message → Bool
+      gone m = such m && not (isAbout cic m)
+
+      other : (m : Message) → gone m ≡ true → isAbout cic m ≡ false
+      other m = by (such m) (isAbout cic m)
+        where
+          by : (a b : Bool) → (a && not b) ≡ true → b ≡ false
+          by true true e = absurd (false≢true e)
+          by true false e = refl
+          by false b e = absurd (false≢true e)
+
+  -- an event on another circuit, whenever it comes
+  heedlessly : (x y : Exchange) → LinkHolds own far cic x y → (i kind code detail : ℕ) (p : Particulars) (b : Bool) → eqb i cic ≡ b
+      → HoldsPair own far cic (given (exchangeActs own far cic) (cond b never anyTime) (heedless i kind code detail p) x y)
+  heedlessly x y h i kind code detail p true e = h
+  heedlessly x y h i kind code detail p false e =
+      besideIt own far cic (x .holds) (y .holds) (h .first) (h .second) i (eqb-false i cic e) (eventOf kind code detail) p (x .coming) (y .coming) (h .ends)
+
   pub keepsLink : (x y : Exchange) (g : Happening Gift) → LinkHolds own far cic x y → HoldsPair own far cic (turn (exchangeActs own far cic) g x y)
   keepsLink x y arrives h = keepsArrival (x .holds) (x .coming) y h
   keepsLink x y (host (event i kind code detail p)) h = givenIf x y h i kind code detail p (good p) (refused13 own far cic (x .holds) i (eventOf kind code detail)) refl refl
+  keepsLink x y (host (heedless i kind code detail p)) h = heedlessly x y h i kind code detail p (eqb i cic) refl
+  keepsLink x y (host (losses such)) h = lostOnTheLink x y h such
   keepsLink x y (host (foreign m)) h = strange x y h m (isAbout cic m) refl
 
 -- AT THE START

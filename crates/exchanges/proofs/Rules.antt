@@ -19,7 +19,7 @@ use Rattle.group.specs.Table.{stepIn}
 use Rattle.tup.specs.Entries.{Told}
 use Rattle.ends.specs.Machine.{Both, Effect, When, When.anyTime, When.inSilence, When.losingAll, When.never, whenGiven, none, without, acted, Happening.arrives, Happening.host, given, Reached.start, Reached.atFirst}
 use Rattle.ends.specs.Ends.{inOrder}
-use Rattle.exchanges.specs.Link.{Message, Exchange, exchange, isAbout, Particulars, good, writesAll, plainly, Gift.event, Gift.foreign, steps, refused13, reads, circuitIn, signalIn, exchangeActs, Has, LinkStart.firstRestarted, ExchangesCome}
+use Rattle.exchanges.specs.Link.{Message, Exchange, exchange, isAbout, Particulars, good, writesAll, plainly, Gift.event, Gift.heedless, Gift.foreign, Gift.losses, steps, refused13, reads, circuitIn, signalIn, exchangeActs, Has, LinkStart.firstRestarted, ExchangesCome}
 use Rattle.exchanges.proofs.Over.{plainlyGood, notThirteen}
 
 module _ (own far cic : ℕ) (t u : List ℕ) (w v : List Message) where
@@ -70,6 +70,15 @@ module _ (own far cic : ℕ) (t u : List ℕ) (w v : List Message) where
     pub inQuiet : whenGiven e ≡ inSilence → T (none (isAbout i) w) → T (none (isAbout i) v) → At w → Come (acted (steps own far cic t i e p) w (exchange u v))
     inQuiet is nw nv q = subst (λ (b : Bool). Come (cond b (acted (steps own far cic t i e p) w (exchange u v)) (exchange t w, exchange u v)))
         (isTrue (none (isAbout i) w && none (isAbout i) v) (both (none (isAbout i) w) (none (isAbout i) v) nw nv)) (timely inSilence is q)
+
+  -- on another circuit, whenever it comes
+  pub heedlessly : (i kind code detail : ℕ) (p : Particulars) → (i ≡ cic → ⊥) → At w → Come (acted (steps own far cic t i (eventOf kind code detail) p) w (exchange u v))
+  heedlessly i kind code detail p other q = subst (λ (b : Bool). Come (given (exchangeActs own far cic) (cond b never anyTime) (heedless i kind code detail p) (exchange t w) (exchange u v)))
+      (ne-eqb i cic other) (atFirst q (host (heedless i kind code detail p)))
+
+  -- messages of other circuits are lost
+  pub lost : (such : Message → Bool) → At w → ExchangesCome own far cic (exchange t (without (λ m. such m && not (isAbout cic m)) w)) (exchange u (without (λ m. such m && not (isAbout cic m)) v))
+  lost such q = subst (λ (l : List Message). ExchangesCome own far cic (exchange t (without (λ m. such m && not (isAbout cic m)) w)) (exchange u l)) (append-nil _) (atFirst q (host (losses such)))
 
   -- octets that neither exchange wrote
   pub strangers : (m : Message) → isAbout cic m ≡ false → At w → ExchangesCome own far cic (exchange t w) (exchange u (v ++ (m ∷ [])))

@@ -59,15 +59,17 @@ module _ (own far count cic : ℕ) where
       by true e ih = ih
       by false e ih = rw (unseen m e) ih
 
-  -- those of another circuit are
-  pub lostOthers : (i : ℕ) → (i ≡ cic → ⊥) → (q : List Message) → signals (without (isAbout i) q) ≡ signals q
-  lostOthers i other [] = refl
-  lostOthers i other (m ∷ q) = by (isAbout i m) refl (lostOthers i other q)
+  -- others are
+  pub lostBeside : (such : Message → Bool) → ((m : Message) → such m ≡ true → isAbout cic m ≡ false) → (q : List Message) → signals (without such q) ≡ signals q
+  lostBeside such other [] = refl
+  lostBeside such other (m ∷ q) = by (such m) refl (lostBeside such other q)
     where
-      by : (b : Bool) → isAbout i m ≡ b → signals (without (isAbout i) q) ≡ signals q
-          → signals (cond b (without (isAbout i) q) (m ∷ without (isAbout i) q)) ≡ seenIn m ++ signals q
-      by true e ih = rw (unseen m (ne-eqb (cicIn m) cic (λ z. other (sym (eqb-true (cicIn m) i e) ∙ z)))) ih
+      by : (b : Bool) → such m ≡ b → signals (without such q) ≡ signals q → signals (cond b (without such q) (m ∷ without such q)) ≡ seenIn m ++ signals q
+      by true e ih = rw (unseen m (other m e)) ih
       by false e ih = ap (λ (l : List Signal). seenIn m ++ l) ih
+
+  pub lostOthers : (i : ℕ) → (i ≡ cic → ⊥) → (q : List Message) → signals (without (isAbout i) q) ≡ signals q
+  lostOthers i other = lostBeside (isAbout i) (λ m e. ne-eqb (cicIn m) cic (λ z. other (sym (eqb-true (cicIn m) i e) ∙ z)))
 
   -- one comes last that is not its own
   pub foreignLast : (q : List Message) (m : Message) → isAbout cic m ≡ false → signals (q ++ (m ∷ [])) ≡ signals q

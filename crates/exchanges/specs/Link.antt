@@ -22,7 +22,7 @@ use Rattle.formats.specs.Messages.{isIam, isAcm}
 use Rattle.reader.specs.Places.{cicIn}
 use Rattle.writer.specs.Writing.{Said, said, badAddress}
 use Rattle.tup.specs.Entries.{Told, readInto, writeFrom}
-use Rattle.ends.specs.Machine.{Party, Effect, When, When.anyTime, When.never, whenGiven, Acts, silence, Happening, Happening.host, turn, Reached}
+use Rattle.ends.specs.Machine.{Party, Effect, When, When.anyTime, When.losingAll, When.never, whenGiven, Acts, silence, Happening, Happening.host, turn, Reached}
 use Rattle.ends.specs.Ends.{end, inOrder, awaitsReset, Agree}
 
 -- a message as octets, from its label on
@@ -97,10 +97,13 @@ writesAll own far count cic p (s ∷ rest) = writes own far count cic p s ++ wri
 abbrev pub plainly : Particulars
 plainly = record { acm = 0; category = 0; indicators = 0; address = 0 ∷ []; buffer = replicate 17 0 }
 
--- what the host gives: an event on a circuit by its numbers, with particulars; or octets that neither exchange wrote come in on the link
+-- What the host gives: an event on a circuit by its numbers, with particulars. And what else may befall the other circuits: an event that heeds no rule,
+-- octets that neither exchange wrote, messages that are lost on the link.
 pub data Gift : Type 0 where
   event : (cic kind code detail : ℕ) → Particulars → Gift
+  heedless : (cic kind code detail : ℕ) → Particulars → Gift
   foreign : Message → Gift
+  losses : (Message → Bool) → Gift
 
 -- own, far: the exchange's own code and the other's; watched: the circuit that is looked at
 module _ (own far watched : ℕ) where
@@ -131,20 +134,25 @@ module _ (own far watched : ℕ) where
   abbrev pub sticking : List ℕ → Told → Bool
   sticking table r = eqb (r .answer) 0 && refused13 table (circuitIn (r .buffer)) (signalIn (r .buffer))
 
-  -- The host's event: with good particulars, while it is not refused 13. Foreign octets may come at any time, but not about the circuit that is
-  -- looked at.
+  -- The host's event: with good particulars, while it is not refused 13. All else may be at any time, but not on the circuit that is looked at.
   abbrev pub whenGift : List ℕ → Gift → When
   whenGift table (event cic kind code detail p) =
       cond (good p && not (refused13 table cic (eventOf kind code detail))) (whenGiven (eventOf kind code detail)) never
+  whenGift table (heedless cic kind code detail p) = cond (eqb cic watched) never anyTime
   whenGift table (foreign m) = cond (isAbout watched m) never anyTime
+  whenGift table (losses such) = losingAll
 
   abbrev pub aboutGift : Gift → Message → Bool
   aboutGift (event cic kind code detail p) m = isAbout cic m
+  aboutGift (heedless cic kind code detail p) m = false
   aboutGift (foreign o) m = false
+  aboutGift (losses such) m = such m && not (isAbout watched m)
 
   abbrev pub gives : List ℕ → Gift → Effect (List ℕ) Message
   gives table (event cic kind code detail p) = steps table cic (eventOf kind code detail) p
+  gives table (heedless cic kind code detail p) = steps table cic (eventOf kind code detail) p
   gives table (foreign m) = record { after = table; sends = m ∷ [] }
+  gives table (losses such) = record { after = table; sends = [] }
 
   abbrev pub exchangeActs : Acts (List ℕ) Message Gift
   exchangeActs = record {

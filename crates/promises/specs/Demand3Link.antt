@@ -35,7 +35,7 @@ use Rattle.exchanges.specs.Link.{Message, Exchange, exchange, isAbout, Particul
 use Rattle.exchanges.specs.Cases.{Step, Step.A, Step.B, after, command, quiet, two, exchanges, crossing, restarting, arriving}
 use Rattle.exchanges.proofs.Sent.{sentIsRead}
 use Rattle.exchanges.proofs.Over.{mirrorLink, exchangesAgree, headHeard}
-use Rattle.exchanges.proofs.Rules.{dropped, taken, timely, inQuiet, strangers}
+use Rattle.exchanges.proofs.Rules.{dropped, taken, timely, inQuiet, heedlessly, lost, strangers}
 use Rattle.exchanges.proofs.Cases.{shown, ran}
 use Rattle.promises.specs.Demand3.{AgreeOn, agreeOn, Never, isUnheard}
 
@@ -114,6 +114,17 @@ module _ {own far cic : ℕ} where
           → let answer = stepIn own far t i (eventOf kind code detail) in
           ExchangesCome own far cic (exchange (answer .table) w) (exchange u (v ++ writesAll own far (recordsIn (length t)) i p (inOrder (answer .answer .sends))))
       givenInSilence = inQuiet own far cic t u w v i kind code detail p well not13
+
+    -- On any other circuit the host may break every rule: any event at any time, with any particulars, and nothing is lost by a restart.
+    pub heedlessBeside : (i kind code detail : ℕ) (p : Particulars) → (i ≡ cic → ⊥) → ExchangesCome own far cic (exchange t w) (exchange u v)
+        → let answer = stepIn own far t i (eventOf kind code detail) in
+        ExchangesCome own far cic (exchange (answer .table) w) (exchange u (v ++ writesAll own far (recordsIn (length t)) i p (inOrder (answer .answer .sends))))
+    heedlessBeside = heedlessly own far cic t u w v
+
+    -- Any messages about other circuits may be lost.
+    pub lossesBeside : (such : Message → Bool) → ExchangesCome own far cic (exchange t w) (exchange u v)
+        → ExchangesCome own far cic (exchange t (without (λ m. such m && not (isAbout cic m)) w)) (exchange u (without (λ m. such m && not (isAbout cic m)) v))
+    lossesBeside = lost own far cic t u w v
 
     -- Octets that neither exchange wrote come in on the link, about any other circuit.
     pub foreignOctets : (m : Message) → isAbout cic m ≡ false → ExchangesCome own far cic (exchange t w) (exchange u v)
