@@ -1,7 +1,7 @@
 -- Two circuits over one link: where a run leads, and that every run leads to exchanges that are reached.
 -- Assumes nothing.
 use mathlib.Core.Path.{_≡_, refl, ap, _∙_}
-use mathlib.Core.List.{List, [], _∷_, _++_}
+use mathlib.Core.List.{List, [], _∷_}
 use Prim.Native.Nat.{ℕ, _<_}
 use Rattle.circuit.specs.Rows.{first}
 use Rattle.codes.specs.Numbers.{eventOf}

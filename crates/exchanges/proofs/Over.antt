@@ -4,7 +4,7 @@
 use mathlib.Core.Path.{_≡_, refl, sym, ap, _∙_, subst, subst₂}
 use mathlib.Core.Bool.{Bool, true, false, cond, not, _&&_, _||_, true≢false, false≢true}
 use mathlib.Core.List.{List, [], _∷_, _++_, append-nil}
-use Prim.Native.Nat.{ℕ, zero, suc, _%_, _^_, _<_, _≤_}
+use Prim.Native.Nat.{ℕ, zero, suc, _^_, _<_, _≤_}
 use native.Mathlib.Omega.{arith}
 use borrow.Author.Tests.{eq-eqb, ne-eqb, eqb-true, eqb-false, leb-false, lt-leb}
 use lib.Dec.{T, eqb, leb, ltb, le→leb, lit≤}
@@ -41,18 +41,18 @@ use Rattle.reader.specs.Places.{cicIn, headingIn, sixBitsIn}
 use Rattle.reader.specs.Reading.{readRules, fieldsIn, unless, fieldsOf, reading}
 use Rattle.formats.specs.Messages.{isIam, isAcm}
 use Rattle.writer.specs.Writing.{badAddress}
-use Rattle.tup.specs.Entries.{fieldsOctets, Told, readInto}
+use Rattle.tup.specs.Entries.{fieldsOctets, Told}
 use Rattle.tup.proofs.Entries.{refuses, fills}
 use Rattle.inverse.proofs.Numbers.{numberBack}
 use Rattle.inverse.proofs.Refusals.{readRefusal}
-use Rattle.ends.specs.Machine.{Both, acted, arrival, When, When.anyTime, When.inSilence, When.losingAll, When.never, whenGiven, none, without, silence, given, spared, Happening, Happening.arrives, Happening.host, turn}
+use Rattle.ends.specs.Machine.{Both, acted, arrival, When, When.anyTime, When.inSilence, When.losingAll, When.never, whenGiven, none, without, silence, given, Happening, Happening.arrives, Happening.host, turn}
 use Rattle.ends.specs.Ends.{End, end, idle, inOrder, does, seen, endActs, Agree, unheard as neverHeard}
 use Rattle.ends.proofs.Machine.{always, mirror, allLost}
 use Rattle.ends.proofs.Words.{heard, heard-more}
 use Rattle.ends.proofs.Standing.{Holds, changed, sameWords, idles, restarts, keeps}
 use Rattle.ends.proofs.Claim.{agreed}
 use Rattle.ends.proofs.Heard.{nextHeard}
-use Rattle.exchanges.specs.Link.{Message, Exchange, isAbout, Particulars, good, writesAll, plainly, Gift, Gift.event, Gift.heedless, Gift.foreign, Gift.losses, steps, refused13, reads, circuitIn, signalIn, taking, sticking, exchangeActs, Has, IdleAt, restartOf, LinkStart, LinkStart.idleAtBoth, LinkStart.firstRestarted, LinkStart.secondRestarted, ExchangesCome, ClaimOver}
+use Rattle.exchanges.specs.Link.{Message, Exchange, isAbout, Particulars, good, writesAll, plainly, Gift, Gift.event, Gift.heedless, Gift.foreign, Gift.losses, steps, refused13, reads, circuitIn, taking, sticking, exchangeActs, Has, IdleAt, restartOf, LinkStart, LinkStart.idleAtBoth, LinkStart.firstRestarted, LinkStart.secondRestarted, ExchangesCome, ClaimOver}
 use Rattle.exchanges.proofs.Sent.{below, circuitRead, named, heardIn}
 use Rattle.exchanges.proofs.Seen.{seenIn, signals, signals-more, silent, lostAll, lostBeside, lostOthers, foreignLast, sentBeside, sentHere}
 

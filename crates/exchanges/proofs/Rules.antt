@@ -4,7 +4,7 @@ use mathlib.Core.Path.{_≡_, refl, subst}
 use mathlib.Core.Bool.{Bool, true, false, cond, not, _&&_}
 use mathlib.Core.List.{List, [], _∷_, _++_, append-nil}
 use Prim.Native.Nat.{ℕ, _<_}
-use lib.Dec.{T, eqb}
+use lib.Dec.{T}
 use lib.ListN.{length}
 use borrow.Author.Tests.{eq-eqb, ne-eqb}
 use Rattle.circuit.specs.declared.Command.the-variants.{Restart}
@@ -19,7 +19,7 @@ use Rattle.group.specs.Table.{stepIn}
 use Rattle.tup.specs.Entries.{Told}
 use Rattle.ends.specs.Machine.{Both, Effect, When, When.anyTime, When.inSilence, When.losingAll, When.never, whenGiven, none, without, acted, Happening.arrives, Happening.host, given, Reached.start, Reached.atFirst}
 use Rattle.ends.specs.Ends.{inOrder}
-use Rattle.exchanges.specs.Link.{Message, Exchange, exchange, isAbout, Particulars, good, writesAll, plainly, Gift.event, Gift.heedless, Gift.foreign, Gift.losses, steps, refused13, reads, circuitIn, signalIn, exchangeActs, Has, LinkStart.firstRestarted, ExchangesCome}
+use Rattle.exchanges.specs.Link.{Message, exchange, isAbout, Particulars, good, writesAll, plainly, Gift.event, Gift.heedless, Gift.foreign, Gift.losses, steps, refused13, reads, circuitIn, signalIn, exchangeActs, Has, LinkStart.firstRestarted, ExchangesCome}
 use Rattle.exchanges.proofs.Over.{plainlyGood, notThirteen}
 
 module _ (own far cic : ℕ) (t u : List ℕ) (w v : List Message) where

@@ -1,11 +1,11 @@
 -- What one circuit's end sees of a queue in which all circuits are mixed: the signals that its reader hears in the messages about that circuit. How
 -- that changes when messages are sent, lost or of other circuits.
 -- Assumes nothing.
-use mathlib.Core.Path.{_≡_, refl, sym, ap, _∙_, subst}
-use mathlib.Core.Bool.{Bool, true, false, cond, not, _&&_}
+use mathlib.Core.Path.{_≡_, refl, sym, ap, _∙_}
+use mathlib.Core.Bool.{Bool, true, false, cond, not}
 use mathlib.Core.List.{List, [], _∷_, _++_, append-assoc, append-nil}
 use Prim.Native.Nat.{ℕ, _/_, _%_, _<_}
-use borrow.Author.Tests.{eq-eqb, ne-eqb, eqb-true, eqb-false}
+use borrow.Author.Tests.{eq-eqb, ne-eqb, eqb-true}
 use lib.Dec.{T, eqb}
 use lib.ListN.{length, take}
 use Rattle.circuit.specs.declared.Signal.{Signal}
@@ -22,7 +22,7 @@ use Rattle.inverse.proofs.Refusals.{fromRefusal}
 use Rattle.inverse.proofs.ReadBack.{octetsRead}
 use Rattle.ends.specs.Machine.{none, without}
 use Rattle.ends.proofs.Words.{word, heard, heard-more}
-use Rattle.exchanges.specs.Link.{Message, isAbout, Particulars, good, saying, goesOut, writes, writesAll}
+use Rattle.exchanges.specs.Link.{Message, isAbout, Particulars, good, saying, writes, writesAll}
 use Rattle.exchanges.proofs.Sent.{writerTakes, accepted, goesOutWhole, circuitWritten, heardIn, sameWord}
 
 -- own, far, count: the reader's group

@@ -5,7 +5,7 @@ use mathlib.Core.Bool.{Bool, true, false, cond, not, _&&_, _||_}
 use mathlib.Core.List.{List, [], _∷_}
 use Prim.Native.Nat.{ℕ, zero, suc, _+_, _/_, _%_, _<_, _≤_}
 use native.Mathlib.Omega.{arith}
-use borrow.Author.Tests.{ltb-false, le-ltb, eq-eqb, eqb-true}
+use borrow.Author.Tests.{ltb-false, le-ltb, eq-eqb}
 use lib.Dec.{T, eqb, leb, ltb, leb→le, lit≤}
 use lib.ListN.{length, take}
 use Rattle.circuit.specs.declared.Failure.the-variants.{Sec, Cgc, Nnc, Adi, Cfl, Ssb, Unn, Los, Sst}
@@ -19,7 +19,7 @@ use Rattle.codes.specs.declared.Named.{Named}
 use Rattle.codes.specs.declared.Named.the-variants.{Known, Unknown}
 use Rattle.codes.specs.Headings.{headingOf, signalOf}
 use Rattle.formats.specs.Octets.{aboveFifteen}
-use Rattle.formats.specs.Messages.{listed, isIam, isAcm, half}
+use Rattle.formats.specs.Messages.{listed, isIam, half}
 use Rattle.reader.specs.declared.Fields.{Fields}
 use Rattle.reader.specs.Places.{cicIn, headingIn}
 use Rattle.reader.specs.Reading.{readRules, plainFields, iamFields, fieldsIn, unless, fieldsOf, reading}
@@ -98,9 +98,22 @@ module _ (own far count cic : ℕ) (group : badGroup own far count ≡ false) (h
   taken h known fit ordered short =
       let low : cic < 4096 = below own far count cic group has in
       let fits : lengthOf (saying cic h p) ≤ length (p .buffer) = let r = room p g in omega arith in
-      noneGiven (writeRules own far count (saying cic h p) (length (p .buffer)))
-      (group, (le-ltb 4095 cic (omega arith), (ap not known, (fit, (ordered,
-      (ap (ltb (length (p .buffer))) (octetsLong own far (saying cic h p)) ∙ le-ltb (length (p .buffer)) (lengthOf (saying cic h p)) fits, tt))))))
+      noneGiven (writeRules own far count (saying cic h p) (length (p .buffer))) (
+        group,
+        (
+          le-ltb 4095 cic (omega arith),
+          (
+            ap not known,
+            (
+              fit,
+              (
+                ordered,
+                (ap (ltb (length (p .buffer))) (octetsLong own far (saying cic h p)) ∙ le-ltb (length (p .buffer)) (lengthOf (saying cic h p)) fits, tt),
+              ),
+            ),
+          ),
+        ),
+      )
 
   plainTaken : (h : ℕ) → listed h ≡ true → tooLarge (saying cic h p) ≡ false → isIam h ≡ false → lengthOf (saying cic h p) ≤ 17 → Taken h
   plainTaken h known fit i = taken h known fit (ap (λ (b : Bool). b && badAddress (saying cic h p .address)) i)
@@ -256,8 +269,7 @@ sentIsRead own far count cic group has p g theirs group' has' s =
     let filled = fromFilled own far count m (p .buffer) ok in
     let octets : take (w .answer / 256) (w .buffer) ≡ octetsOf own far m = ap (λ (n : ℕ). take n (w .buffer)) (filled .0) ∙ filled .1 .start in
     let back = ap (fieldsOf far own theirs) octets ∙ octetsRead own far count m (length (p .buffer)) (writerTakes own far count cic group has p g s) theirs group' has' in
-    let n = names cic p s in
-    (
+    let n = names cic p s in (
       ok,
       ap (λ (f : Fields). f .refusal) back ∙ n .0,
       ap (λ (f : Fields). f .circuit .0) back ∙ n .1,

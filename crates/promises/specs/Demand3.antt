@@ -30,7 +30,7 @@ use Rattle.codes.specs.declared.Found.{Found}
 use Rattle.codes.specs.declared.Found.the-variants.{Is, Missing}
 use Rattle.step.specs.Step.{stepFound}
 use Rattle.ends.specs.Machine.{When, When.anyTime, When.inSilence, When.losingAll, When.never, whenGiven, Happening.arrives, Happening.host, given, Reached.start, Reached.atFirst}
-use Rattle.ends.specs.Ends.{End, end, Pair, Start.bothIdle as idlePair, EndsCome, inOrder, does, seen, endActs, unheard, Agree, Claim, ClaimUnheard}
+use Rattle.ends.specs.Ends.{End, end, Pair, Start.bothIdle as idlePair, EndsCome, inOrder, does, endActs, unheard, Agree, Claim, ClaimUnheard}
 use Rattle.ends.proofs.Machine.{allLost}
 use Rattle.ends.proofs.Standing.{mirrorEnds}
 use Rattle.ends.proofs.Claim.{twoEndsAgree}

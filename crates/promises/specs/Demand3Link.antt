@@ -3,36 +3,32 @@
 -- which they can, then what is promised of the circuit. The step is `stepIn`, the reader `readInto`, the writer `writeFrom`: the definitions that the
 -- contracts of the archive's entries cite.
 -- Assumes nothing.
-use mathlib.Core.Path.{_≡_, refl, sym, ap, subst}
-use mathlib.Core.Bool.{Bool, true, false, cond, not, _&&_}
-use mathlib.Core.List.{List, [], _∷_, _++_, append-nil}
+use mathlib.Core.Path.{_≡_, refl}
+use mathlib.Core.Bool.{Bool, false, cond, not, _&&_}
+use mathlib.Core.List.{List, [], _∷_, _++_}
 use Prim.Native.Nat.{ℕ, _/_, _%_, _<_}
 use lib.Dec.{T, eqb, leb}
 use lib.ListN.{length, take, getD, replicate}
-use borrow.Author.Tests.{eq-eqb, ne-eqb}
 use Rattle.circuit.specs.declared.Signal.{Signal}
-use Rattle.circuit.specs.declared.Signal.the-variants.{Acm}
 use Rattle.circuit.specs.Groups.{badGroup}
-use Rattle.circuit.proofs.Every.{both, isTrue}
+use Rattle.circuit.proofs.Every.{both}
 use Rattle.codes.specs.declared.Named.the-variants.{Known}
-use Rattle.codes.specs.declared.Found.{Found}
 use Rattle.codes.specs.Headings.{headingOf}
 use Rattle.codes.specs.Numbers.{eventOf}
 use Rattle.words.specs.Octets.{numberOf}
-use Rattle.layout.specs.Layout.{recordsIn, stateAt, flagsAt, recordAt, allowedAt, idle}
-use Rattle.layout.proofs.Laws.{idleState, idleFlags}
+use Rattle.layout.specs.Layout.{recordsIn, stateAt, flagsAt, recordAt}
 use Rattle.group.specs.Table.{stepIn}
 use Rattle.formats.specs.Octets.{aboveFifteen}
 use Rattle.formats.specs.Messages.{isIam, isAcm}
 use Rattle.reader.specs.Places.{cicIn}
 use Rattle.reader.specs.Reading.{reading}
 use Rattle.writer.specs.Writing.{said, badAddress}
-use Rattle.tup.specs.Entries.{Told, readInto, writeFrom}
-use Rattle.ends.specs.Machine.{Both, Effect, When, When.anyTime, When.inSilence, When.losingAll, When.never, whenGiven, none, without, silence, Happening.arrives, Happening.host, acted, given, Reached.start, Reached.atFirst}
+use Rattle.tup.specs.Entries.{readInto, writeFrom}
+use Rattle.ends.specs.Machine.{Both, When.anyTime, When.inSilence, When.losingAll, whenGiven, none, without, Happening.arrives, Reached.start}
 use Rattle.ends.specs.Ends.{inOrder, unheard}
 use Rattle.ends.proofs.Plain.{notAwaiting, opposite12, notBoth}
-use Rattle.exchanges.specs.Link.{Message, Exchange, exchange, isAbout, Particulars, good, saying, chosen, goesOut, writes, writesAll, plainly, Gift, Gift.event, Gift.foreign, steps, refused13, reads, circuitIn, signalIn, exchangeActs, Has, IdleAt, restartOf, LinkStart.idleAtBoth, LinkStart.firstRestarted, ExchangesCome, ClaimOver}
-use Rattle.exchanges.specs.Cases.{Step, Step.A, Step.B, after, command, quiet, two, exchanges, crossing, restarting, arriving}
+use Rattle.exchanges.specs.Link.{Message, Exchange, exchange, isAbout, Particulars, good, saying, chosen, writesAll, plainly, steps, LinkStart.idleAtBoth, ExchangesCome, ClaimOver}
+use Rattle.exchanges.specs.Cases.{Step, Step.A, Step.B, after, command, quiet, two, crossing, restarting, arriving}
 use Rattle.exchanges.proofs.Sent.{sentIsRead}
 use Rattle.exchanges.proofs.Over.{mirrorLink, exchangesAgree, headHeard}
 use Rattle.exchanges.proofs.Rules.{dropped, taken, timely, inQuiet, heedlessly, lost, strangers}
@@ -61,8 +57,8 @@ nothingGoesOut own far count cic p = refl
 pub eachGoesOut : (own far count cic : ℕ) (p : Particulars) (s : Signal) (rest : List Signal)
     → let heading = headingOf s in
     let w = writeFrom own far count
-        (said cic heading (cond (isAcm heading) (p .acm) 0) (cond (isIam heading) (p .category) 0) (cond (isIam heading) (p .indicators) 0) (cond (isIam heading) (p .address) []))
-        (p .buffer) in
+    (said cic heading (cond (isAcm heading) (p .acm) 0) (cond (isIam heading) (p .category) 0) (cond (isIam heading) (p .indicators) 0) (cond (isIam heading) (p .address) []))
+    (p .buffer) in
     writesAll own far count cic p (s ∷ rest) ≡ cond (eqb (w .answer % 256) 0) (take (w .answer / 256) (w .buffer) ∷ []) [] ++ writesAll own far count cic p rest
 eachGoesOut own far count cic p s rest = refl
 

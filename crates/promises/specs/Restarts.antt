@@ -2,7 +2,7 @@
 -- another maker's. A restart (command 10) at either end puts that right: demand 3 holds from there on, whatever happens next, and agreement comes.
 -- Ends and what can happen to them are those of `Demand3`, exchanges those of `Demand3Link`.
 -- Assumes nothing.
-use mathlib.Core.Path.{_≡_, refl, sym, subst, subst₂}
+use mathlib.Core.Path.{_≡_, refl, subst}
 use mathlib.Core.Bool.{Bool, true, false, cond, _||_}
 use mathlib.Core.List.{List, [], _∷_, _++_}
 use mathlib.Core.Logic.{_⊎_}
@@ -10,11 +10,9 @@ use Prim.Native.Nat.{ℕ, _<_}
 use lib.Dec.{T, eqb}
 use lib.ListN.{length}
 use Rattle.circuit.specs.declared.Record.{Record}
-use Rattle.circuit.specs.declared.Signal.{Signal}
 use Rattle.circuit.specs.declared.Signal.the-variants.{Rsc}
-use Rattle.circuit.specs.declared.Command.the-variants.{Restart}
 use Rattle.circuit.specs.declared.Timer.the-variants.{Repeat}
-use Rattle.circuit.specs.declared.Event.the-variants.{Arrives, Ordered, RunsOut}
+use Rattle.circuit.specs.declared.Event.the-variants.{RunsOut}
 use Rattle.circuit.specs.Records.{plain, valid}
 use Rattle.circuit.specs.Groups.{badGroup, controls}
 use Rattle.codes.specs.declared.Found.the-variants.{Is}
@@ -22,11 +20,11 @@ use Rattle.codes.specs.Numbers.{eventOf}
 use Rattle.layout.specs.Layout.{recordsIn, allowedAt}
 use Rattle.step.specs.Step.{stepFound}
 use Rattle.group.specs.Table.{stepIn}
-use Rattle.ends.specs.Machine.{without, Happening.arrives, Happening.host, turn, Reached.start}
+use Rattle.ends.specs.Machine.{without, Happening.arrives, turn, Reached.start}
 use Rattle.ends.specs.Ends.{End, end, Pair, inOrder, endActs, restart, Start.firstRestarted, EndsCome}
 use Rattle.ends.specs.Heals.{firstRepeats, delivered, repeated, Quiet, Healed, turns, ClaimHeals, ClaimArrives}
 use Rattle.ends.proofs.Heals.{afterwards, restartHealsAll, allArrives, repeatsFirst, repeatsSecond}
-use Rattle.exchanges.specs.Link.{Message, Exchange, exchange, isAbout, plainly, writesAll, ExchangesCome}
+use Rattle.exchanges.specs.Link.{Message, exchange, isAbout, plainly, writesAll, ExchangesCome}
 use Rattle.exchanges.proofs.Rules.{restarting}
 
 -- DEMAND 3 HOLDS FROM THERE ON
