@@ -1,7 +1,7 @@
--- The proof of what `Ends` claims, in this order:
+-- The proof of what `Ends` and `Calm` claim, in this order:
 -- Machine: an invariant is kept. Words: a queue as the run of its words. Events: every record and event, as finite lists. Moves: the call's part of a step, as a table.
 -- Rooms: what the two ends' runs may be together. Sound: rooms speak for queues of any length. Explored: the rooms, found and tested.
--- Marks: the blocks. Standing: both hold of every pair that is reached. Claim, Heard: the two claims.
+-- Marks: the blocks. Standing: both hold of every pair that is reached. Claim, Heard: the two claims of `Ends`. Calm: the one of `Calm`.
 -- Plain: their tests as plain facts. Cases: pairs that are reached.
 pub mod Machine
 pub mod Words
@@ -14,6 +14,7 @@ pub mod Marks
 pub mod Standing
 pub mod Claim
 pub mod Heard
+pub mod Calm
 pub mod Plain
 pub mod Heals
 pub mod Cases

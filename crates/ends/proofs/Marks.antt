@@ -19,11 +19,11 @@ use Rattle.circuit.proofs.Every.{left, right, then, eachBool, atBool}
 use Rattle.codes.specs.declared.Found.{Found}
 use Rattle.codes.specs.declared.Found.the-variants.{Is}
 use Rattle.step.specs.Step.{step, stepFound}
-use Rattle.ends.specs.Machine.{acted, arrival, When, When.anyTime, When.inSilence, When.losingAll, When.never, whenGiven, silence, given, Happening, Happening.arrives, Happening.host, turn}
-use Rattle.ends.specs.Ends.{End, end, Pair, inOrder, does, seen, endActs, restart, marks}
-use Rattle.ends.proofs.Machine.{allLost}
+use Rattle.ends.specs.Machine.{acted}
+use Rattle.ends.specs.Ends.{End, end, Pair, inOrder, does, seen, marks}
+use Rattle.ends.specs.Calm.{leave, ready}
 use Rattle.ends.proofs.Words.{blo, ubl, rsc, word, heard, heard-more, sameBool}
-use Rattle.ends.proofs.Events.{said, alike, everywhere, atWord, atHost}
+use Rattle.ends.proofs.Events.{said, alike, eachRecord, atRecord, everywhere, atWord, atHost}
 
 -- the far mark after a word, and after a queue: BLO sets it, UBL and RSC clear it
 abbrev marked : Bool → ℕ → Bool
@@ -91,18 +91,20 @@ clears m o = inStep (o .after .own) (told m (wordsOf o)) false && (valid (o .aft
 abbrev wordKeeps : Bool → Record → ℕ → Bool
 wordKeeps c r k = eachBool (λ m. eachBool (λ z. keeps r m (eqb k rsc || z) z (marked (r .far) k) (does c r (Is (Arrives (said k))))))
 
-abbrev hostKeepsWhen : When → Record → Outcome → Bool
-hostKeepsWhen anyTime r o = eachBool (λ m. eachBool (λ z. keeps r m z z (r .far) o))
-hostKeepsWhen inSilence r o = eachBool (λ m. eachBool (λ z. keeps r m z z (r .far) o))
-hostKeepsWhen losingAll r o = eachBool (λ m. clears m o)
-hostKeepsWhen never r o = true
-
+-- whatever the host gives, a restart by which nothing is lost among it
 abbrev hostKeeps : Bool → Record → Found → Bool
-hostKeeps c r e = hostKeepsWhen (whenGiven e) r (does c r e)
+hostKeeps c r e = implies (ready true (leave r e)) (eachBool (λ m. eachBool (λ z. keeps r m z z (r .far) (does c r e))))
 
 kept-in-step : T (everywhere wordKeeps hostKeeps)
 unfolding does stepFound step first
 kept-in-step = tt
+
+abbrev restartClears : Bool → Record → Bool
+restartClears c r = eachBool (λ m. clears m (does c r (Is (Ordered Restart))))
+
+cleared : T (eachBool (λ c. eachRecord (restartClears c)))
+unfolding does stepFound step first
+cleared = tt
 
 -- from the test to the ends
 
@@ -164,9 +166,9 @@ module _ (c : Bool) (other : End) where
   abbrev N : Bool
   N = told (other .holds .far) (heard (other .coming))
 
-  arrived : (r : Record) (q : List Signal) → Marks (record { holds = r; coming = q }) other → MarksPair (arrival (endActs c) r q other)
-  arrived r [] i = i
-  arrived r (x ∷ rest) i = keepsMarks r (eqb (word x) rsc || Z) rest (marked (r .far) (word x)) other (does c r (Is (Arrives x))) (i .there) (i .back) (i .yours)
+  -- a signal arrives
+  pub arrived : (r : Record) (x : Signal) (rest : List Signal) → Marks (end r (x ∷ rest)) other → MarksPair (acted (seen (does c r (Is (Arrives x)))) rest other)
+  arrived r x rest i = keepsMarks r (eqb (word x) rsc || Z) rest (marked (r .far) (word x)) other (does c r (Is (Arrives x))) (i .there) (i .back) (i .yours)
       (rw (alike c r x) (atBool (keeping N) (atBool (λ m. eachBool (keeping m)) (atWord wordKeeps hostKeeps kept-in-step c r (i .mine) x) N) Z))
     where
       Z : Bool
@@ -175,17 +177,34 @@ module _ (c : Bool) (other : End) where
       keeping : Bool → Bool → Bool
       keeping m z = keeps r m (eqb (word x) rsc || z) z (marked (r .far) (word x)) (does c r (Is (Arrives (said (word x)))))
 
-  -- everything on its way is lost
-  lost : (o : Outcome) → T (valid (other .holds)) → T (eachBool (λ m. clears m o)) → MarksPair (acted (seen o) [] (end (other .holds) []))
-  lost o yours test = record {
+  -- the host gives an event, and nothing is lost
+  pub hosted : (me : End) → Marks me other → (e : Found) → T (ready true (leave (me .holds) e)) → MarksPair (acted (seen (does c (me .holds) e)) (me .coming) other)
+  hosted me i e given = keepsMarks r (resetIn (heard (me .coming))) (me .coming) (r .far) other (does c r e) (i .there) (i .back) (i .yours)
+      (atBool (keeping N) (atBool (λ m. eachBool (keeping m)) test N) (resetIn (heard (me .coming))))
+    where
+      r : Record
+      r = me .holds
+
+      keeping : Bool → Bool → Bool
+      keeping m z = keeps r m z z (r .far) (does c r e)
+
+      test : T (eachBool (λ m. eachBool (keeping m)))
+      test = then (ready true (leave r e)) _ (atHost wordKeeps hostKeeps kept-in-step c r (i .mine) (λ x. tt) e) given
+
+  -- a restart by which everything is lost, so that it asks nothing of what was before
+  pub restarted : (r : Record) → T (valid r) → T (valid (other .holds)) → MarksPair (acted (seen (does c r (Is (Ordered Restart)))) [] (end (other .holds) []))
+  restarted r mine yours = record {
     there = left (inStep (o .after .own) (told (other .holds .far) (wordsOf o)) false) _ one;
     back = by (other .holds .own) (o .after .far) (resetIn (wordsOf o)) (right (valid (o .after)) _ two);
     mine = left (valid (o .after)) _ two;
     yours = yours;
   }
     where
+      o : Outcome
+      o = does c r (Is (Ordered Restart))
+
       one : T (clears (other .holds .far) o)
-      one = atBool (λ m. clears m o) test (other .holds .far)
+      one = atBool (λ m. clears m o) (atRecord (restartClears c) (atBool (λ c. eachRecord (restartClears c)) cleared c) r mine) (other .holds .far)
 
       two : T (valid (o .after) && (not (o .after .far) && resetIn (wordsOf o)))
       two = right (inStep (o .after .own) (told (other .holds .far) (wordsOf o)) false) _ one
@@ -196,32 +215,6 @@ module _ (c : Bool) (other : End) where
       by true false false t = absurd t
       by false false z t = tt
       by false true z t = absurd t
-
-  plainly : (me : End) → Marks me other → (o : Outcome) → T (hostKeepsWhen anyTime (me .holds) o) → MarksPair (acted (seen o) (me .coming) other)
-  plainly me i o test = keepsMarks (me .holds) (resetIn (heard (me .coming))) (me .coming) (me .holds .far) other o (i .there) (i .back) (i .yours)
-      (atBool (keeping N) (atBool (λ m. eachBool (keeping m)) test N) (resetIn (heard (me .coming))))
-    where
-      keeping : Bool → Bool → Bool
-      keeping m z = keeps (me .holds) m z z (me .holds .far) o
-
-  hosted : (me : End) → Marks me other → (e : Found) (w : When) → T (hostKeepsWhen w (me .holds) (does c (me .holds) e)) → MarksPair (given (endActs c) w e me other)
-  hosted me i e anyTime test = plainly me i (does c (me .holds) e) test
-  hosted me i e inSilence test = by (silence (endActs c .about e) me other)
-    where
-      by : (s : Bool) → MarksPair (cond s (acted (seen (does c (me .holds) e)) (me .coming) other) (me, other))
-      by true = plainly me i (does c (me .holds) e) test
-      by false = i
-  hosted me i e losingAll test = rw (allLost (me .coming), allLost (other .coming)) (lost (does c (me .holds) e) (i .yours) test)
-  hosted me i e never test = i
-
-  -- a restart loses everything, so that it asks nothing of what was before
-  pub restarted : (me : End) → T (valid (me .holds)) → T (valid (other .holds)) → MarksPair (turn (endActs c) restart me other)
-  restarted me mine yours = rw (allLost (me .coming), allLost (other .coming))
-      (lost (does c (me .holds) (Is (Ordered Restart))) yours (atHost wordKeeps hostKeeps kept-in-step c (me .holds) mine (λ x. tt) (Is (Ordered Restart))))
-
-  pub turned : (me : End) → Marks me other → (h : Happening Found) → MarksPair (turn (endActs c) h me other)
-  turned me i arrives = arrived (me .holds) (me .coming) i
-  turned me i (host e) = hosted me i e (whenGiven e) (atHost wordKeeps hostKeeps kept-in-step c (me .holds) (i .mine) (λ x. tt) e)
 
 pub swapped : {x y : End} → Marks x y → Marks y x
 swapped i = record { there = i .back; back = i .there; mine = i .yours; yours = i .mine }

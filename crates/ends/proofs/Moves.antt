@@ -9,18 +9,19 @@ use lib.Dec.{T, eqb, eqb→eq}
 use lib.ListN.{getD}
 use Rattle.circuit.specs.declared.Record.{Record}
 use Rattle.circuit.specs.declared.Signal.{Signal}
-use Rattle.circuit.specs.declared.Event.the-variants.{Arrives}
+use Rattle.circuit.specs.declared.Command.the-variants.{Restart}
+use Rattle.circuit.specs.declared.Event.the-variants.{Arrives, Ordered}
 use Rattle.circuit.specs.declared.Outcome.{Outcome}
 use Rattle.circuit.specs.Records.{rec, valid}
 use Rattle.circuit.specs.Rows.{first}
-use Rattle.circuit.proofs.Every.{left, right}
+use Rattle.circuit.proofs.Every.{left, right, eachBool, atBool}
 use Rattle.codes.specs.declared.Found.{Found}
 use Rattle.codes.specs.declared.Found.the-variants.{Is}
 use Rattle.step.specs.Step.{step, stepFound}
-use Rattle.ends.specs.Machine.{When, When.anyTime, When.inSilence, When.losingAll, When.never, whenGiven}
 use Rattle.ends.specs.Ends.{inOrder, does}
-use Rattle.ends.proofs.Words.{word, heard, member, sameList, same-list}
-use Rattle.ends.proofs.Events.{said, alike, hostEvents, everywhere, atWord, atHost}
+use Rattle.ends.specs.Calm.{Leave, Leave.atOnce, Leave.onceCalm, Leave.withheld, leave}
+use Rattle.ends.proofs.Words.{rsc, word, heard, member, sameList, same-list}
+use Rattle.ends.proofs.Events.{said, alike, hostEvents, eachRecord, atRecord, everywhere, atWord, atHost}
 
 pub data Move : Type 0 where
   to : ℕ → List ℕ → Move
@@ -40,26 +41,38 @@ same-move (to s o) (to t u) h =
 abbrev pub among : Move → List Move → Bool
 among a l = member sameMove a l
 
--- The moves by role, state and cause: a word that arrives, 0..12, or what the host gives
+-- a restart makes one move, whatever the record
+abbrev pub reset : Move
+reset = to 12 (rsc ∷ [])
+
+abbrev resets : Bool → Record → Bool
+resets c r = sameMove (moveOf (does c r (Is (Ordered Restart)))) reset
+
+all-reset : T (eachBool (λ c. eachRecord (resets c)))
+unfolding does stepFound step first
+all-reset = tt
+
+pub restart-moves : (c : Bool) (r : Record) → T (valid r) → moveOf (does c r (Is (Ordered Restart))) ≡ reset
+restart-moves c r v = same-move (moveOf (does c r (Is (Ordered Restart)))) reset (atRecord (resets c) (atBool (λ c. eachRecord (resets c)) all-reset c) r v)
+
+-- The moves by role, state and cause: a word that arrives, 0..12, or what the host gives, by the leave that it has
 abbrev pub Table : Type 0
 Table = Bool → ℕ → ℕ → List Move
 
-abbrev pub causeOf : When → ℕ
-causeOf anyTime = 13
-causeOf inSilence = 14
-causeOf losingAll = 15
-causeOf never = 16
+abbrev pub causeOf : Leave → ℕ
+causeOf atOnce = 13
+causeOf onceCalm = 14
+causeOf withheld = 15
 
 -- a table has every move
 
-abbrev pub byCause : When → Move → (ℕ → List Move) → Bool
-byCause anyTime a row = among a (row (causeOf anyTime))
-byCause inSilence a row = among a (row (causeOf inSilence))
-byCause losingAll a row = among a (row (causeOf losingAll))
-byCause never a row = true
+abbrev pub byCause : Leave → Move → (ℕ → List Move) → Bool
+byCause atOnce a row = among a (row (causeOf atOnce))
+byCause onceCalm a row = among a (row (causeOf onceCalm))
+byCause withheld a row = true
 
 abbrev pub hostListed : Table → Bool → Record → Found → Bool
-hostListed m c r e = byCause (whenGiven e) (moveOf (does c r e)) (m c (r .state))
+hostListed m c r e = byCause (leave r e) (moveOf (does c r e)) (m c (r .state))
 
 abbrev wordListed : Table → Bool → Record → ℕ → Bool
 wordListed m c r k = among (moveOf (does c r (Is (Arrives (said k))))) (m c (r .state) k)
@@ -91,15 +104,15 @@ overFlags s f = overBools (λ own. overBools (λ far. overBools (λ bla. overBoo
 
 abbrev putHost : Bool → ℕ → Record → List Found → List Move → List Move
 putHost c k r [] l = l
-putHost c k r (e ∷ es) l = putHost c k r es (cond (eqb (causeOf (whenGiven e)) k) (put (moveOf (does c r e)) l) l)
+putHost c k r (e ∷ es) l = putHost c k r es (cond (eqb (causeOf (leave r e)) k) (put (moveOf (does c r e)) l) l)
 
-abbrev tabulate : {A : Type 0} → ℕ → (ℕ → A) → List A
+abbrev pub tabulate : {A : Type 0} → ℕ → (ℕ → A) → List A
 tabulate zero f = []
 tabulate (suc n) f = f zero ∷ tabulate n (λ k. f (suc k))
 
 abbrev column : Bool → ℕ → List (List Move)
 column c s = tabulate 13 (λ k. overFlags s (λ r. put (moveOf (does c r (Is (Arrives (said k)))))))
-    ++ (overFlags s (λ r. putHost c 13 r hostEvents) ∷ overFlags s (λ r. putHost c 14 r hostEvents) ∷ overFlags s (λ r. putHost c 15 r hostEvents) ∷ [])
+    ++ (overFlags s (λ r. putHost c (causeOf atOnce) r hostEvents) ∷ overFlags s (λ r. putHost c (causeOf onceCalm) r hostEvents) ∷ [])
 
 abbrev pub Columns : Type 0
 Columns = List (List (List Move))

@@ -1,5 +1,6 @@
 -- What the proof sees of a queue: the words of its signals, without their particulars. An end takes some words quietly; a run is the state
--- after those at the head of the queue, and the words that stand behind them.
+-- after those at the head of the queue, and the words that stand behind them. Of an end that is calm, and may therefore restart and lose nothing,
+-- it also sees the run as it would then be.
 -- Assumes nothing.
 use mathlib.Core.Bool.{Bool, true, false, cond, not, _&&_, _||_}
 use mathlib.Core.List.{List, [], _∷_, _++_, append-assoc, append-nil}
@@ -105,9 +106,18 @@ same-list (x ∷ u) (y ∷ v) t =
 abbrev pub mute : ℕ → Bool
 mute x = leb blo x
 
+-- An end in 11 may say its failure again and again: of failures that follow each other one is kept. A word comes in front of others, or behind them.
+abbrev pub push : ℕ → List ℕ → List ℕ
+push x [] = x ∷ []
+push x (y ∷ u) = cond (eqb x fail && eqb y fail) (y ∷ u) (x ∷ y ∷ u)
+
+abbrev pub behind : List ℕ → ℕ → List ℕ
+behind [] x = x ∷ []
+behind (y ∷ u) x = push y (behind u x)
+
 abbrev pub kept : List ℕ → List ℕ
 kept [] = []
-kept (x ∷ w) = cond (mute x) (kept w) (x ∷ kept w)
+kept (x ∷ w) = cond (mute x) (kept w) (push x (kept w))
 
 -- but a BLO ends a call that is seized: whether one is on its way
 abbrev pub bloIn : List ℕ → Bool
@@ -143,9 +153,14 @@ restOf (ran p u) = u
 abbrev pub endOf : Run → ℕ
 endOf (ran p u) = p
 
--- an end: its state, the run of its queue, and, if it is seized, whether a BLO is on its way to it
+-- what is seen of an end's calm: while it is calm, the run that its queue has from 12, where a restart leads
+pub data Calm : Type 0 where
+  stirred : Calm
+  calm : Run → Calm
+
+-- an end: its state, the run of its queue, if it is seized, whether a BLO is on its way to it, and its calm
 pub data Half : Type 0 where
-  half : ℕ → Run → Bool → Half
+  half : ℕ → Run → Bool → Calm → Half
 
 abbrev pub bloFor : ℕ → List ℕ → Bool
 bloFor s w = bloIn w && eqb s 1
@@ -153,8 +168,13 @@ bloFor s w = bloIn w && eqb s 1
 abbrev pub runOf : (c : Bool) → ℕ → List ℕ → Run
 runOf c s w = run c s (kept w)
 
-abbrev pub view : (c : Bool) → ℕ → List ℕ → Half
-view c s w = half s (runOf c s w) (bloFor s w)
+-- k: the end is calm
+abbrev pub calmOf : (c k : Bool) → List ℕ → Calm
+calmOf c false w = stirred
+calmOf c true w = calm (runOf c 12 w)
+
+abbrev pub view : (c k : Bool) → ℕ → List ℕ → Half
+view c k s w = half s (runOf c s w) (bloFor s w) (calmOf c k w)
 
 -- halves compared
 
@@ -165,8 +185,14 @@ abbrev pub sameBool : Bool → Bool → Bool
 sameBool true b = b
 sameBool false b = not b
 
+abbrev pub sameCalm : Calm → Calm → Bool
+sameCalm stirred stirred = true
+sameCalm stirred (calm q) = false
+sameCalm (calm r) stirred = false
+sameCalm (calm r) (calm q) = sameRun r q
+
 abbrev pub sameHalf : Half → Half → Bool
-sameHalf (half s r b) (half t q d) = eqb s t && (sameRun r q && sameBool b d)
+sameHalf (half s r b k) (half t q d l) = eqb s t && (sameRun r q && (sameBool b d && sameCalm k l))
 
 same-run : (r q : Run) → T (sameRun r q) → r ≡ q
 same-run (ran p u) (ran q v) t =
@@ -180,46 +206,100 @@ same-bool true false t = absurd t
 same-bool false true t = absurd t
 same-bool false false t = refl
 
-pub same-half : (h k : Half) → T (sameHalf h k) → h ≡ k
-same-half (half s r b) (half t q d) h =
-    let two : T (sameRun r q && sameBool b d) = right (eqb s t) _ h in
+same-calm : (k l : Calm) → T (sameCalm k l) → k ≡ l
+same-calm stirred stirred t = refl
+same-calm stirred (calm q) t = absurd t
+same-calm (calm r) stirred t = absurd t
+same-calm (calm r) (calm q) t = ap calm (same-run r q t)
+
+pub same-half : (g h : Half) → T (sameHalf g h) → g ≡ h
+same-half (half s r b k) (half t q d l) h =
+    let three : T (sameRun r q && (sameBool b d && sameCalm k l)) = right (eqb s t) _ h in
+    let two : T (sameBool b d && sameCalm k l) = right (sameRun r q) _ three in
     let e : s ≡ t = eqb→eq s t (left (eqb s t) _ h) in
-    let f : r ≡ q = same-run r q (left (sameRun r q) _ two) in
-    let g : b ≡ d = same-bool b d (right (sameRun r q) _ two) in
+    let f : r ≡ q = same-run r q (left (sameRun r q) _ three) in
+    let g : b ≡ d = same-bool b d (left (sameBool b d) _ two) in
+    let i : k ≡ l = same-calm k l (right (sameBool b d) _ two) in
     cc
 
 -- a word joins the queue
 
 abbrev pub runMore : (c : Bool) → Run → ℕ → Run
 runMore c (ran p []) x = run c p (x ∷ [])
-runMore c (ran p (y ∷ u)) x = ran p (y ∷ (u ++ (x ∷ [])))
+runMore c (ran p (y ∷ u)) x = ran p (behind (y ∷ u) x)
+
+abbrev pub joinRun : (c : Bool) → Run → ℕ → Run
+joinRun c r x = cond (mute x) r (runMore c r x)
+
+abbrev pub joinCalm : (c : Bool) → Calm → ℕ → Calm
+joinCalm c stirred x = stirred
+joinCalm c (calm r) x = calm (joinRun c r x)
 
 abbrev pub join : (c : Bool) → Half → ℕ → Half
-join c (half s r b) x = half s (cond (mute x) r (runMore c r x)) (b || eqb x blo && eqb s 1)
+join c (half s r b k) x = half s (joinRun c r x) (b || eqb x blo && eqb s 1) (joinCalm c k x)
 
 abbrev pub joinAll : (c : Bool) → Half → List ℕ → Half
 joinAll c h [] = h
 joinAll c h (x ∷ o) = joinAll c (join c h x) o
 
-run-more : (c : Bool) (s : ℕ) (u : List ℕ) (k : ℕ) → runMore c (run c s u) k ≡ run c s (u ++ (k ∷ []))
-run-more c s [] k = refl
-run-more c s (x ∷ u) k = by (quiet c s x) (run-more c (next s x) u k)
+-- two failures in front are one
+fail-twice : (u : List ℕ) → push fail (push fail u) ≡ push fail u
+fail-twice [] = refl
+fail-twice (y ∷ u) = by (eqb y fail) refl
   where
-    by : (q : Bool) → runMore c (run c (next s x) u) k ≡ run c (next s x) (u ++ (k ∷ []))
-        → runMore c (cond q (run c (next s x) u) (ran s (x ∷ u))) k ≡ cond q (run c (next s x) (u ++ (k ∷ []))) (ran s (x ∷ (u ++ (k ∷ []))))
+    by : (b : Bool) → eqb y fail ≡ b → push fail (cond b (y ∷ u) (fail ∷ y ∷ u)) ≡ cond b (y ∷ u) (fail ∷ y ∷ u)
+    by true e = rw e
+    by false e = refl
+
+behind-push : (y : ℕ) (u : List ℕ) (x : ℕ) → behind (push y u) x ≡ push y (behind u x)
+behind-push y [] x = refl
+behind-push y (z ∷ u) x = by (eqb y fail && eqb z fail) (λ b. eqb→eq y fail (left (eqb y fail) _ b)) (λ b. eqb→eq z fail (right (eqb y fail) _ b))
+  where
+    by : (b : Bool) → (T b → y ≡ fail) → (T b → z ≡ fail) → behind (cond b (z ∷ u) (y ∷ z ∷ u)) x ≡ push y (push z (behind u x))
+    by true d e = rw (d tt, e tt) (sym (fail-twice (behind u x)))
+    by false d e = refl
+
+next-fail : (s : ℕ) → next s fail ≡ s
+next-fail s = by (eqb s fail) (eqb→eq s fail)
+  where
+    by : (b : Bool) → (T b → s ≡ fail) → cond (b && leb s 4) (cond (eqb s 4) 3 (suc s)) s ≡ s
+    by true e = rw (e tt)
+    by false e = refl
+
+-- the run of a queue with one word more in front
+pub run-push : (c : Bool) (s x : ℕ) (u : List ℕ) → run c s (push x u) ≡ cond (quiet c s x) (run c (next s x) u) (ran s (push x u))
+run-push c s x [] = refl
+run-push c s x (y ∷ u) = by (eqb x fail && eqb y fail) (λ b. eqb→eq x fail (left (eqb x fail) _ b)) (λ b. eqb→eq y fail (right (eqb x fail) _ b))
+  where
+    -- an end that takes a failure quietly stays where it is, and takes a second one as well
+    twice : (q : Bool) → cond q (run c s u) (ran s (fail ∷ u)) ≡ cond q (cond q (run c s u) (ran s (fail ∷ u))) (ran s (fail ∷ u))
+    twice true = refl
+    twice false = refl
+
+    by : (b : Bool) → (T b → x ≡ fail) → (T b → y ≡ fail)
+        → run c s (cond b (y ∷ u) (x ∷ y ∷ u)) ≡ cond (quiet c s x) (run c (next s x) (y ∷ u)) (ran s (cond b (y ∷ u) (x ∷ y ∷ u)))
+    by true d e = rw (d tt, e tt, next-fail s, next-fail s) (twice (quiet c s fail))
+    by false d e = refl
+
+run-more : (c : Bool) (s : ℕ) (u : List ℕ) (k : ℕ) → runMore c (run c s u) k ≡ run c s (behind u k)
+run-more c s [] k = refl
+run-more c s (x ∷ u) k = by (quiet c s x) (run-more c (next s x) u k) ∙ sym (run-push c s x (behind u k))
+  where
+    by : (q : Bool) → runMore c (run c (next s x) u) k ≡ run c (next s x) (behind u k)
+        → runMore c (cond q (run c (next s x) u) (ran s (x ∷ u))) k ≡ cond q (run c (next s x) (behind u k)) (ran s (push x (behind u k)))
     by true ih = ih
     by false ih = refl
 
-kept-more : (w : List ℕ) (x : ℕ) → kept (w ++ (x ∷ [])) ≡ cond (mute x) (kept w) (kept w ++ (x ∷ []))
+kept-more : (w : List ℕ) (x : ℕ) → kept (w ++ (x ∷ [])) ≡ cond (mute x) (kept w) (behind (kept w) x)
 kept-more [] x = refl
 kept-more (y ∷ w) x = rw (kept-more w x) (by (mute y) (mute x))
   where
-    by : (a b : Bool) → cond a (cond b (kept w) (kept w ++ (x ∷ []))) (y ∷ cond b (kept w) (kept w ++ (x ∷ [])))
-        ≡ cond b (cond a (kept w) (y ∷ kept w)) (cond a (kept w) (y ∷ kept w) ++ (x ∷ []))
+    by : (a b : Bool) → cond a (cond b (kept w) (behind (kept w) x)) (push y (cond b (kept w) (behind (kept w) x)))
+        ≡ cond b (cond a (kept w) (push y (kept w))) (behind (cond a (kept w) (push y (kept w))) x)
     by true true = refl
     by true false = refl
     by false true = refl
-    by false false = refl
+    by false false = sym (behind-push y (kept w) x)
 
 or-false : (a : Bool) → (a || false) ≡ a
 or-false true = refl
@@ -241,19 +321,28 @@ share true false false = refl
 share false b d = refl
 
 -- the half after a word is the view of the longer queue
-joined-one : (c : Bool) (s : ℕ) (w : List ℕ) (x : ℕ) → join c (view c s w) x ≡ view c s (w ++ (x ∷ []))
-joined-one c s w x =
-    let e : cond (mute x) (runOf c s w) (runMore c (runOf c s w) x) ≡ runOf c s (w ++ (x ∷ [])) = rw (kept-more w x) (by (mute x)) in
-    let f : (bloFor s w || eqb x blo && eqb s 1) ≡ bloFor s (w ++ (x ∷ [])) = rw (blo-more w x) (share (bloIn w) (eqb x blo) (eqb s 1)) in
-    cc
+
+joined-run : (c : Bool) (s : ℕ) (w : List ℕ) (x : ℕ) → joinRun c (runOf c s w) x ≡ runOf c s (w ++ (x ∷ []))
+joined-run c s w x = rw (kept-more w x) (by (mute x))
   where
-    by : (m : Bool) → cond m (runOf c s w) (runMore c (runOf c s w) x) ≡ run c s (cond m (kept w) (kept w ++ (x ∷ [])))
+    by : (m : Bool) → cond m (runOf c s w) (runMore c (runOf c s w) x) ≡ run c s (cond m (kept w) (behind (kept w) x))
     by true = refl
     by false = run-more c s (kept w) x
 
-pub joined : (c : Bool) (s : ℕ) (w o : List ℕ) → joinAll c (view c s w) o ≡ view c s (w ++ o)
-joined c s w [] = ap (view c s) (sym (append-nil w))
-joined c s w (x ∷ o) = ap (λ (h : Half). joinAll c h o) (joined-one c s w x) ∙ (joined c s (w ++ (x ∷ [])) o ∙ ap (view c s) (append-assoc w (x ∷ []) o))
+joined-calm : (c k : Bool) (w : List ℕ) (x : ℕ) → joinCalm c (calmOf c k w) x ≡ calmOf c k (w ++ (x ∷ []))
+joined-calm c false w x = refl
+joined-calm c true w x = ap calm (joined-run c 12 w x)
+
+joined-one : (c k : Bool) (s : ℕ) (w : List ℕ) (x : ℕ) → join c (view c k s w) x ≡ view c k s (w ++ (x ∷ []))
+joined-one c k s w x =
+    let e : joinRun c (runOf c s w) x ≡ runOf c s (w ++ (x ∷ [])) = joined-run c s w x in
+    let f : (bloFor s w || eqb x blo && eqb s 1) ≡ bloFor s (w ++ (x ∷ [])) = rw (blo-more w x) (share (bloIn w) (eqb x blo) (eqb s 1)) in
+    let g : joinCalm c (calmOf c k w) x ≡ calmOf c k (w ++ (x ∷ [])) = joined-calm c k w x in
+    cc
+
+pub joined : (c k : Bool) (s : ℕ) (w o : List ℕ) → joinAll c (view c k s w) o ≡ view c k s (w ++ o)
+joined c k s w [] = ap (view c k s) (sym (append-nil w))
+joined c k s w (x ∷ o) = ap (λ (h : Half). joinAll c h o) (joined-one c k s w x) ∙ (joined c k s (w ++ (x ∷ [])) o ∙ ap (view c k s) (append-assoc w (x ∷ []) o))
 
 -- a change of state
 

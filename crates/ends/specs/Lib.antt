@@ -1,4 +1,5 @@
 pub mod Machine
 pub mod Ends
+pub mod Calm
 pub mod Heals
 pub mod Cases
