@@ -2,7 +2,8 @@
 -- Assumes nothing.
 use mathlib.Core.Bool.{Bool, true, false, cond, not}
 use mathlib.Core.List.{List, [], _∷_, append-nil}
-use mathlib.Core.Path.{_≡_, subst}
+use mathlib.Core.Logic.{_⊎_, inl, inr}
+use mathlib.Core.Path.{_≡_, refl, subst}
 use Prim.Native.Nat.{ℕ}
 use lib.Dec.{T}
 use Rattle.circuit.specs.declared.Record.{Record}
@@ -12,12 +13,18 @@ use Rattle.circuit.specs.Groups.{controls}
 use Rattle.circuit.proofs.Groups.{oneControls}
 use Rattle.codes.specs.declared.Found.{Found}
 use Rattle.ends.specs.Machine.{Both, acted, arrival, When.anyTime, When.never, silence, given, Happening, Happening.arrives, Happening.host, turn}
-use Rattle.ends.specs.Ends.{inOrder, does}
-use Rattle.ends.specs.Calm.{Watched, WatchedEnd, bare, still, Gift, Gift.event, Gift.cut, Gift.lull, leave, ready, seenCalm, givesKept, keptActs, KeptStart, KeptStart.bothIdle, KeptStart.firstRestarted, KeptStart.secondRestarted, KeptCome, ClaimKept}
-use Rattle.ends.proofs.Machine.{always, allLost}
+use Rattle.ends.specs.Ends.{inOrder, does, NextIsHeard}
+use Rattle.ends.specs.Calm.{Watched, WatchedEnd, bare, still, Gift, Gift.event, Gift.cut, Gift.lull, Leave.atOnce, Leave.onceCalm, waits, leave, ready, seenCalm, givesKept, keptActs, KeptStart, KeptStart.bothIdle, KeptStart.firstRestarted, KeptStart.secondRestarted, KeptCome, ClaimKept}
+use Rattle.ends.proofs.Machine.{always, mirror, allLost}
 use Rattle.ends.proofs.Marks.{Marks, arrived, hosted, restarted, swapped}
 use Rattle.ends.proofs.Standing.{Stand, mirrored, calm-ready, takes, gets, loses, notes, idly, Holds}
 use Rattle.ends.proofs.Claim.{agreed}
+use Rattle.ends.proofs.Heard.{nextHeard}
+
+-- timers 4 and 5 wait in 5 and in 12
+pub waiting : (r : Record) → (r .state ≡ 5) ⊎ (r .state ≡ 12) → cond (waits r) onceCalm atOnce ≡ onceCalm
+waiting r (inl e) = rw e refl
+waiting r (inr e) = rw e refl
 
 -- what holds of every pair that is reached; c: the first end is controlling
 record Keeps (c : Bool) (x y : WatchedEnd) : Type 0 where
@@ -113,3 +120,16 @@ keptHeld own far cic different x y r = record { blocks = i .blocks; firstCalm = 
 pub keptEndsAgree : ClaimKept
 unfolding ClaimKept
 keptEndsAgree own far cic different x y r = agreed (controls own far cic) (bare x) (bare y) (keptHeld own far cic different x y r)
+
+-- no signal is the next to arrive that is never heard
+pub keptNextHeard : (own far cic : ℕ) → (own ≡ far → ⊥) → (x y : WatchedEnd) → KeptCome (controls own far cic) (controls far own cic) x y → NextIsHeard (bare x)
+keptNextHeard own far cic different x y r = nextHeard (controls own far cic) (bare x) (bare y) (keptHeld own far cic different x y r)
+
+-- the two ends change places
+pub mirrorKept : {a b : Bool} {x y : WatchedEnd} → KeptCome a b x y → KeptCome b a y x
+mirrorKept {a} {b} = mirror turns
+  where
+    turns : (x y : WatchedEnd) → KeptStart a b x y → KeptStart b a y x
+    turns x y (bothIdle k j) = bothIdle j k
+    turns x y (firstRestarted p q v w) = secondRestarted q p w v
+    turns x y (secondRestarted p q v w) = firstRestarted q p w v

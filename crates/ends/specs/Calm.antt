@@ -20,7 +20,7 @@ use Rattle.circuit.specs.Records.{plain, valid}
 use Rattle.circuit.specs.Groups.{controls}
 use Rattle.codes.specs.declared.Found.{Found}
 use Rattle.codes.specs.declared.Found.the-variants.{Is, Missing}
-use Rattle.ends.specs.Machine.{Party, Effect, Acts, When, When.anyTime, When.inSilence, When.losingAll, When.never, Happening.host, turn, Reached}
+use Rattle.ends.specs.Machine.{Party, Both, Effect, Acts, When, When.anyTime, When.inSilence, When.losingAll, When.never, Happening.host, turn, Reached}
 use Rattle.ends.specs.Ends.{End, end, inOrder, does, awaiting, Agree}
 
 -- a circuit's record at an end, and whether the end is calm
@@ -30,6 +30,9 @@ pub record Watched : Type 0 where
 
 abbrev pub WatchedEnd : Type 0
 WatchedEnd = Party Watched Signal
+
+abbrev pub KeptPair : Type 0
+KeptPair = Both Watched Signal
 
 -- the end without that knowledge
 abbrev pub bare : WatchedEnd → End

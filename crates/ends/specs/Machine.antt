@@ -110,6 +110,15 @@ module _ {H M : Type 0} where
     turn arrives me other = arrival (me .holds) (me .coming) other
     turn (host e) me other = given (a .when (me .holds) e) e me other
 
+-- one thing that happens, at the first party or at the second, and what a run of such things leads to
+pub data Step (E : Type 0) : Type 0 where
+  first second : Happening E → Step E
+
+abbrev pub after : {H M E : Type 0} → (a b : Acts H M E) → Both H M → List (Step E) → Both H M
+after a b p [] = p
+after a b p (first h ∷ steps) = after a b (turn a h (p .0) (p .1)) steps
+after a b p (second h ∷ steps) = let q = turn b h (p .1) (p .0) in after a b (q .1, q .0) steps
+
 -- the pairs that are reached from those where a run may start; a, b: what the first party does, and the second
 pub data Reached {H M E : Type 0} (Start : Party H M → Party H M → Type 0) (a b : Acts H M E) : Party H M → Party H M → Type 0 where
   start : {x y : Party H M} → Start x y → Reached Start a b x y

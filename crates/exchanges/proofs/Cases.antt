@@ -13,9 +13,10 @@ use Rattle.group.specs.Table.{stepIn}
 use Rattle.reader.specs.Reading.{fieldsOf}
 use Rattle.writer.specs.Writing.{tooLarge, badAddress, octetsOf, writing}
 use Rattle.tup.specs.Entries.{readInto}
-use Rattle.ends.specs.Machine.{Both, Reached.start, Reached.atFirst, Reached.atSecond}
+use Rattle.ends.specs.Machine.{Both, Reached.start}
+use Rattle.ends.proofs.Machine.{goesOn}
 use Rattle.exchanges.specs.Link.{Message, Exchange, good, LinkStart.idleAtBoth, ExchangesCome}
-use Rattle.exchanges.specs.Cases.{Step, Step.A, Step.B, after, quiet, exchanges, two, crossing, restarting, arriving}
+use Rattle.exchanges.specs.Cases.{Run, ranFrom, quiet, exchanges, two, crossing, restarting, arriving}
 
 -- both ACMs are on their way
 abbrev pub crossed : Both (List ℕ) Message
@@ -29,33 +30,27 @@ restarted = exchanges (two 0 12 0 7 0) [] (two 0 8 0 1 0) ((1 ∷ 0x80 ∷ 0 ∷
 abbrev pub settled : Both (List ℕ) Message
 settled = exchanges (two 1 0 1 7 0) [] (two 1 0 1 2 0) []
 
-pub crosses : (watched : ℕ) → after watched quiet quiet crossing ≡ crossed
+pub crosses : (watched : ℕ) → ranFrom watched (quiet, quiet) crossing ≡ crossed
 unfolding good badAddress tooLarge octetsOf writing fieldsOf readInto stepIn recordsIn counterIn stateAt flagsAt rankAt recordOf flagsOf putOctets putRank putCounter number put eventOf stepFound step first
 crosses watched = refl
 
-pub restarts : (watched : ℕ) → after watched (crossed .0) (crossed .1) restarting ≡ restarted
+pub restarts : (watched : ℕ) → ranFrom watched crossed restarting ≡ restarted
 unfolding good badAddress tooLarge octetsOf writing fieldsOf readInto stepIn recordsIn counterIn stateAt flagsAt rankAt recordOf flagsOf putOctets putRank putCounter number put eventOf stepFound step first
 restarts watched = refl
 
-pub settles : (watched : ℕ) → after watched (restarted .0) (restarted .1) arriving ≡ settled
+pub settles : (watched : ℕ) → ranFrom watched restarted arriving ≡ settled
 unfolding good badAddress tooLarge octetsOf writing fieldsOf readInto stepIn recordsIn counterIn stateAt flagsAt rankAt recordOf flagsOf putOctets putRank putCounter number put eventOf stepFound step first
 settles watched = refl
 
--- whatever the steps, the exchanges after them are reached
-pub goOn : (watched : ℕ) (steps : List Step) {x y : Exchange} → ExchangesCome 2 1 watched x y → ExchangesCome 2 1 watched (after watched x y steps .0) (after watched x y steps .1)
-goOn watched [] r = r
-goOn watched (A h ∷ steps) r = goOn watched steps (atFirst r h)
-goOn watched (B h ∷ steps) r = goOn watched steps (atSecond r h)
-
-pub shown : (watched : ℕ) → let x = after watched quiet quiet crossing in
-    let y = after watched (x .0) (x .1) restarting in
-    (x ≡ crossed) × (y ≡ restarted) × (after watched (y .0) (y .1) arriving ≡ settled)
+pub shown : (watched : ℕ) → let x = ranFrom watched (quiet, quiet) crossing in
+    let y = ranFrom watched x restarting in
+    (x ≡ crossed) × (y ≡ restarted) × (ranFrom watched y arriving ≡ settled)
 shown watched =
     let e = crosses watched in
-    let f = ap (λ (p : Both (List ℕ) Message). after watched (p .0) (p .1) restarting) e ∙ restarts watched in
-    (e, f, ap (λ (p : Both (List ℕ) Message). after watched (p .0) (p .1) arriving) f ∙ settles watched)
+    let f = ap (λ (p : Both (List ℕ) Message). ranFrom watched p restarting) e ∙ restarts watched in
+    (e, f, ap (λ (p : Both (List ℕ) Message). ranFrom watched p arriving) f ∙ settles watched)
 
-pub ran : (watched : ℕ) → watched < 2 → (steps : List Step) → ExchangesCome 2 1 watched (after watched quiet quiet steps .0) (after watched quiet quiet steps .1)
+pub ran : (watched : ℕ) → watched < 2 → (run : Run) → ExchangesCome 2 1 watched (ranFrom watched (quiet, quiet) run .0) (ranFrom watched (quiet, quiet) run .1)
 unfolding recordsIn
-ran watched low steps = goOn watched steps (start (idleAtBoth quiet quiet (record { group = refl; circuit = low }) (record { group = refl; circuit = low })
+ran watched low run = goesOn run quiet quiet (start (idleAtBoth quiet quiet (record { group = refl; circuit = low }) (record { group = refl; circuit = low })
     (record { state = idleState 28 watched; flags = idleFlags 28 watched }) (record { state = idleState 28 watched; flags = idleFlags 28 watched }) tt))

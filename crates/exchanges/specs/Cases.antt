@@ -4,17 +4,21 @@ use mathlib.Core.List.{List, [], _∷_}
 use Prim.Native.Nat.{ℕ}
 use lib.ListN.{replicate}
 use Rattle.layout.specs.Layout.{idle}
-use Rattle.ends.specs.Machine.{Both, Happening, Happening.arrives, Happening.host, turn}
+use Rattle.ends.specs.Machine.{Both, Happening, Happening.arrives, Happening.host, Step, Step.first, Step.second, after}
 use Rattle.exchanges.specs.Link.{Message, Exchange, Gift, Gift.event, exchangeActs}
 
 -- what happens at the exchange with the code 2, which controls even circuits, or at the one with the code 1
-pub data Step : Type 0 where
-  A B : Happening Gift → Step
+abbrev pub A : Happening Gift → Step Gift
+A = first
 
-abbrev pub after : (watched : ℕ) → Exchange → Exchange → List Step → Both (List ℕ) Message
-after watched x y [] = (x, y)
-after watched x y (A h ∷ steps) = after watched (turn (exchangeActs 2 1 watched) h x y .0) (turn (exchangeActs 2 1 watched) h x y .1) steps
-after watched x y (B h ∷ steps) = after watched (turn (exchangeActs 1 2 watched) h y x .1) (turn (exchangeActs 1 2 watched) h y x .0) steps
+abbrev pub B : Happening Gift → Step Gift
+B = second
+
+abbrev pub Run : Type 0
+Run = List (Step Gift)
+
+abbrev pub ranFrom : (watched : ℕ) → Both (List ℕ) Message → Run → Both (List ℕ) Message
+ranFrom watched = after (exchangeActs 2 1 watched) (exchangeActs 1 2 watched)
 
 -- a command on a circuit; an ACM has the command's detail for its octet, an IAM two digits
 abbrev pub command : (cic code detail : ℕ) → Happening Gift
@@ -35,13 +39,13 @@ abbrev pub exchanges : (x : List ℕ) → List Message → (y : List ℕ) → Li
 exchanges x w y v = (record { holds = x; coming = w }, record { holds = y; coming = v })
 
 -- a call each way; the address of each is complete, and both ACMs are on their way
-abbrev pub crossing : List Step
+abbrev pub crossing : Run
 crossing = A (command 0 1 0) ∷ B (command 1 1 0) ∷ B arrives ∷ A arrives ∷ B (command 0 3 4) ∷ A (command 1 3 0) ∷ []
 
 -- circuit 0 is restarted: its ACM is lost, the other circuit's is not
-abbrev pub restarting : List Step
+abbrev pub restarting : Run
 restarting = A (command 0 10 0) ∷ []
 
 -- all arrives
-abbrev pub arriving : List Step
+abbrev pub arriving : Run
 arriving = B arrives ∷ B arrives ∷ A arrives ∷ []

@@ -36,7 +36,7 @@ use Rattle.ends.proofs.Standing.{mirrorEnds}
 use Rattle.ends.proofs.Claim.{twoEndsAgree}
 use Rattle.ends.proofs.Heard.{someNeverArrive}
 use Rattle.ends.proofs.Plain.{atStagesEitherWay, notAwaiting, marksEqual, opposite12, unheardRlg, notBoth}
-use Rattle.ends.specs.Cases.{Step, Step.C, Step.N, command, timer, after, cases, runs, led}
+use Rattle.ends.specs.Cases.{C, N, Run, command, timer, ranFrom, cases, runs, led}
 use Rattle.ends.proofs.Cases.{asTold, reached}
 
 -- THE RULES
@@ -250,5 +250,5 @@ pub pairsShown : led cases
 pairsShown = asTold
 
 -- and every run leads to a pair that is reached
-pub runsReach : (steps : List Step) → Come true false (after (end (plain 0) []) (end (plain 0) []) steps)
+pub runsReach : (run : Run) → Come true false (ranFrom (end (plain 0) [], end (plain 0) []) run)
 runsReach = reached

@@ -28,7 +28,7 @@ use Rattle.ends.specs.Machine.{Both, When.anyTime, When.inSilence, When.losingA
 use Rattle.ends.specs.Ends.{inOrder, unheard}
 use Rattle.ends.proofs.Plain.{notAwaiting, opposite12, notBoth}
 use Rattle.exchanges.specs.Link.{Message, Exchange, exchange, isAbout, Particulars, good, saying, chosen, writesAll, plainly, steps, LinkStart.idleAtBoth, ExchangesCome, ClaimOver}
-use Rattle.exchanges.specs.Cases.{Step, Step.A, Step.B, after, command, quiet, two, crossing, restarting, arriving}
+use Rattle.exchanges.specs.Cases.{A, B, Run, ranFrom, command, quiet, two, crossing, restarting, arriving}
 use Rattle.exchanges.proofs.Sent.{sentIsRead}
 use Rattle.exchanges.proofs.Over.{mirrorLink, exchangesAgree, headHeard}
 use Rattle.exchanges.proofs.Rules.{dropped, taken, timely, inQuiet, heedlessly, lost, strangers}
@@ -176,11 +176,11 @@ linkRuns = (refl, refl, refl)
 
 -- Both ACMs are on their way; the restart loses circuit 0's alone, and its RSC joins the other's ACM; at last circuit 0 is idle at both ends, freed once,
 -- and circuit 1 at the same stage of one call. A table: its counter, and of each circuit the state, the flags and the rank.
-pub linkShown : (watched : ℕ) → let x = after watched quiet quiet crossing in
-    let y = after watched (x .0) (x .1) restarting in
+pub linkShown : (watched : ℕ) → let x = ranFrom watched (quiet, quiet) crossing in
+    let y = ranFrom watched x restarting in
     (x ≡ (exchange (two 0 1 0 7 0) ((2 ∷ 0x40 ∷ 0 ∷ 0 ∷ 0 ∷ 0x14 ∷ 4 ∷ []) ∷ []), exchange (two 0 8 0 1 0) ((1 ∷ 0x80 ∷ 0 ∷ 0x10 ∷ 0 ∷ 0x14 ∷ 0 ∷ []) ∷ [])))
     × (y ≡ (exchange (two 0 12 0 7 0) [], exchange (two 0 8 0 1 0) ((1 ∷ 0x80 ∷ 0 ∷ 0x10 ∷ 0 ∷ 0x14 ∷ 0 ∷ []) ∷ (1 ∷ 0x80 ∷ 0 ∷ 0 ∷ 0 ∷ 0x77 ∷ []) ∷ [])))
-    × (after watched (y .0) (y .1) arriving ≡ (exchange (two 1 0 1 7 0) [], exchange (two 1 0 1 2 0) []))
+    × (ranFrom watched y arriving ≡ (exchange (two 1 0 1 7 0) [], exchange (two 1 0 1 2 0) []))
 linkShown = shown
 
 pub tableOfTwo : (counter state rank state' rank' : ℕ) → two counter state rank state' rank'
@@ -188,5 +188,5 @@ pub tableOfTwo : (counter state rank state' rank' : ℕ) → two counter state r
 tableOfTwo counter state rank state' rank' = refl
 
 -- and every run leads to exchanges that are reached, whichever of the two circuits is looked at
-pub linkRunsReach : (watched : ℕ) → watched < 2 → (steps : List Step) → Come 2 1 watched (after watched quiet quiet steps)
+pub linkRunsReach : (watched : ℕ) → watched < 2 → (run : Run) → Come 2 1 watched (ranFrom watched (quiet, quiet) run)
 linkRunsReach = ran
