@@ -1,7 +1,7 @@
 -- A restart heals: after it the end that restarted is in 12 and an RSC is on its way, so one test over the other end's records and all orders in
 -- which signals can arrive decides.
 -- Assumes nothing.
-use mathlib.Core.Bool.{Bool, true, false, cond, not, _&&_, _||_}
+use mathlib.Core.Bool.{Bool, true, false, not, _&&_, _||_}
 use mathlib.Core.List.{List, [], _∷_, _++_}
 use mathlib.Core.Logic.{_⊎_, inl, inr}
 use mathlib.Core.Path.{_≡_, refl, sym, ap, subst, subst₂}
@@ -10,10 +10,8 @@ use lib.Dec.{T, eqb, eqb→eq}
 use Rattle.circuit.specs.declared.Record.{Record}
 use Rattle.circuit.specs.declared.Signal.{Signal}
 use Rattle.circuit.specs.declared.Signal.the-variants.{Rsc}
-use Rattle.circuit.specs.declared.Command.the-variants.{Restart}
 use Rattle.circuit.specs.declared.Timer.the-variants.{Repeat}
-use Rattle.circuit.specs.declared.Event.the-variants.{Arrives, Ordered, RunsOut}
-use Rattle.circuit.specs.declared.Outcome.{Outcome}
+use Rattle.circuit.specs.declared.Event.the-variants.{Arrives, RunsOut}
 use Rattle.circuit.specs.Records.{valid, restarted}
 use Rattle.circuit.specs.Rows.{first}
 use Rattle.circuit.specs.Groups.{controls}
@@ -24,7 +22,7 @@ use Rattle.codes.specs.declared.Found.the-variants.{Is}
 use Rattle.step.specs.Step.{step, stepFound}
 use Rattle.step.proofs.Erred.{restartForgets}
 use Rattle.ends.specs.Machine.{none, Happening.host}
-use Rattle.ends.specs.Ends.{End, end, Pair, inOrder, does, marks, seen}
+use Rattle.ends.specs.Ends.{End, end, Pair, inOrder, does, marks}
 use Rattle.ends.specs.Heals.{at, delivered, firstRepeats, repeated, Quiet, Healed, afterRestart, ClaimHeals, turns, ClaimArrives}
 use Rattle.ends.proofs.Machine.{allLost}
 use Rattle.ends.proofs.Events.{eachRecord, atRecord}

@@ -3,7 +3,7 @@
 use mathlib.Core.Bool.{true}
 use mathlib.Core.List.{List, [], _∷_}
 use mathlib.Core.Path.{_≡_, refl}
-use Rattle.ends.specs.Machine.{Party, Both, Acts, without, Happening, turn, Step, Step.first, Step.second, after, Reached, Reached.start, Reached.atFirst, Reached.atSecond}
+use Rattle.ends.specs.Machine.{Party, Acts, without, Happening, turn, Step, Step.first, Step.second, after, Reached, Reached.start, Reached.atFirst, Reached.atSecond}
 
 module _ {H M E : Type 0} {Start : Party H M → Party H M → Type 0} {a b : Acts H M E} where
   -- what holds at the start and is kept by whatever happens at either party

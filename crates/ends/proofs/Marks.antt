@@ -1,6 +1,6 @@
 -- The blocks: what an end holds of the other's block, brought up to date by what is on its way to it, is what the other has. Or an RSC is on its
 -- way to the other, which will then say its block again. And records stay valid.
--- What an event does to the marks is one test over all records and events.
+-- What an event does to the marks is one test over all records and events, and what a restart does by which everything is lost, another.
 -- Assumes nothing.
 use mathlib.Core.Bool.{Bool, true, false, cond, not, _&&_, _||_}
 use mathlib.Core.List.{List, [], _∷_, _++_}

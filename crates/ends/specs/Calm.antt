@@ -1,7 +1,8 @@
 -- The rule that a host can keep: it sees its own end alone. An end is calm while it has itself neither sent nor received a signal on the circuit since
 -- nothing was on its way. Command 10, and timers 4 and 5 in states 5 and 12, wait until the end is calm, whatever the other end may have sent
 -- meanwhile, and nothing is lost by them. A restart may also come at any time if all that is on its way is lost by it.
--- The machine is that of `Machine`, of ends that know whether they are calm. The rule of `Ends` is a special case, and both have one proof.
+-- The machine is that of `Machine`, of ends that know whether they are calm. Whenever nothing is on its way, an end may note it, each by itself: that
+-- both always do is the rule, and runs in which they do not are included. So is every run under the rule of `Ends`, and both have one proof.
 -- Assumes nothing.
 use mathlib.Core.Bool.{Bool, true, false, cond, not, _||_}
 use mathlib.Core.List.{List, [], _∷_}
@@ -48,7 +49,7 @@ pub data Gift : Type 0 where
   event : Found → Gift
   cut lull : Gift
 
--- whether the host gives an event at once, once the end is calm, or not at all
+-- whether the host may give an event at once, once the end is calm, or not at all
 pub data Leave : Type 0 where
   atOnce onceCalm withheld : Leave
 
@@ -82,6 +83,7 @@ leave r (Is (Ordered k)) = leaveOrdered k
 leave r (Is (RunsOut t)) = leaveRunsOut r t
 leave r Missing = atOnce
 
+-- whether it may be given now
 abbrev pub ready : (calm : Bool) → Leave → Bool
 ready calm atOnce = true
 ready calm onceCalm = calm
@@ -96,11 +98,13 @@ whenKept h lull = inSilence
 abbrev pub seenCalm : Bool → Outcome → Effect Watched Signal
 seenCalm calm o = record { after = record { of = o .after; calm = calm }; sends = inOrder (o .sends) }
 
+-- a cut is command 10 at an end that need not be calm; its RSC is on its way then, so the end is not
 abbrev pub givesKept : (c : Bool) → Watched → Gift → Effect Watched Signal
 givesKept c h (event e) = let o = does c (h .of) e in seenCalm (still (inOrder (o .sends)) (h .calm)) o
 givesKept c h cut = seenCalm false (does c (h .of) (Is (Ordered Restart)))
 givesKept c h lull = record { after = record { of = h .of; calm = true }; sends = [] }
 
+-- every signal is about the circuit, and none is stuck; a signal that arrives ends the calm
 abbrev pub keptActs : (c : Bool) → Acts Watched Signal Gift
 keptActs c = record {
   stuck = λ h s. false;

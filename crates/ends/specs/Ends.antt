@@ -1,8 +1,8 @@
 -- Two ends of one circuit: what is claimed of them (docs/RULES.md, "The three demands", the third). What can happen to the pair is `Machine`, of ends
 -- that hold a record.
--- How it is proved: whatever the queues, the two ends together stand in one of some 150 rooms, which the prover finds by following every event from
--- two idle ends. One computed test shows that no event leads out of them and that the ends agree in each; blocks are followed beside that.
--- `proofs/Lib.antt` leads through the files: `Rooms` says what a room is, `Explored` finds and tests them, `Claim` and `Heard` have the theorems.
+-- How it is proved is told in docs/TWO-ENDS.md: whatever the queues, the two ends together stand in one of some 340 rooms, which the prover finds by following
+-- every event from where a run may start. One computed test shows that no event leads out of them and that the ends agree in each; blocks are followed
+-- beside that. `proofs/Lib.antt` leads through the files.
 -- Assumes nothing.
 use mathlib.Core.Bool.{Bool, true, false, not, _&&_, _||_}
 use mathlib.Core.List.{List, [], _∷_}

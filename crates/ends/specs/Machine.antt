@@ -2,7 +2,7 @@
 -- the rules of demand 3: messages in order, none lost but by a restart, timers 4 to 6 only in silence. What a party holds, what a message is, what
 -- the host gives and what a party does with either are parameters.
 -- Assumes nothing.
-use mathlib.Core.Bool.{Bool, true, false, cond, not, _&&_}
+use mathlib.Core.Bool.{Bool, true, cond, not, _&&_}
 use mathlib.Core.List.{List, [], _∷_, _++_}
 use Rattle.circuit.specs.declared.Command.{Command}
 use Rattle.circuit.specs.declared.Command.the-variants.{Seize, Release, AddressComplete, Answer, ClearBack, ReAnswer, FailCall, Block, Unblock, Restart}

@@ -15,7 +15,7 @@ use Rattle.writer.specs.Writing.{tooLarge, badAddress, octetsOf, writing}
 use Rattle.tup.specs.Entries.{readInto}
 use Rattle.ends.specs.Machine.{Both, Reached.start}
 use Rattle.ends.proofs.Machine.{goesOn}
-use Rattle.exchanges.specs.Link.{Message, Exchange, good, LinkStart.idleAtBoth, ExchangesCome}
+use Rattle.exchanges.specs.Link.{Message, good, LinkStart.idleAtBoth, ExchangesCome}
 use Rattle.exchanges.specs.Cases.{Run, ranFrom, quiet, exchanges, two, crossing, restarting, arriving}
 
 -- both ACMs are on their way

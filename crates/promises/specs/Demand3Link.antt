@@ -27,7 +27,7 @@ use Rattle.tup.specs.Entries.{readInto, writeFrom}
 use Rattle.ends.specs.Machine.{Both, When.anyTime, When.inSilence, When.losingAll, whenGiven, none, without, Happening.arrives, Reached.start}
 use Rattle.ends.specs.Ends.{inOrder, unheard}
 use Rattle.ends.proofs.Plain.{notAwaiting, opposite12, notBoth}
-use Rattle.exchanges.specs.Link.{Message, Exchange, exchange, isAbout, Particulars, good, saying, chosen, writesAll, plainly, steps, LinkStart.idleAtBoth, ExchangesCome, ClaimOver}
+use Rattle.exchanges.specs.Link.{Message, Exchange, exchange, isAbout, Particulars, good, saying, chosen, writesAll, plainly, LinkStart.idleAtBoth, ExchangesCome, ClaimOver}
 use Rattle.exchanges.specs.Cases.{A, B, Run, ranFrom, command, quiet, two, crossing, restarting, arriving}
 use Rattle.exchanges.proofs.Sent.{sentIsRead}
 use Rattle.exchanges.proofs.Over.{mirrorLink, exchangesAgree, headHeard}
