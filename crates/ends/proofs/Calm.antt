@@ -1,20 +1,29 @@
 -- The theorem under the rule that a host can keep: two ends of one circuit agree whenever nothing is on its way and neither awaits reset.
 -- Assumes nothing.
 use mathlib.Core.Bool.{Bool, true, false, cond, not}
-use mathlib.Core.List.{List, [], _∷_, append-nil}
+use mathlib.Core.List.{List, [], _∷_, _++_, append-nil}
 use mathlib.Core.Logic.{_⊎_, inl, inr}
 use mathlib.Core.Path.{_≡_, refl, subst}
 use Prim.Native.Nat.{ℕ}
 use lib.Dec.{T}
+use borrow.Author.Tests.{ne-eqb}
 use Rattle.circuit.specs.declared.Record.{Record}
 use Rattle.circuit.specs.declared.Signal.{Signal}
-use Rattle.circuit.specs.Records.{valid}
+use Rattle.circuit.specs.declared.Signal.the-variants.{Rsc}
+use Rattle.circuit.specs.declared.Command.the-variants.{Restart}
+use Rattle.circuit.specs.declared.Event.the-variants.{Ordered}
+use Rattle.circuit.specs.declared.Sends.the-variants.{One}
+use Rattle.circuit.specs.Records.{valid, restarted as forgotten}
+use Rattle.circuit.specs.Rows.{answered}
 use Rattle.circuit.specs.Groups.{controls}
 use Rattle.circuit.proofs.Groups.{oneControls}
 use Rattle.codes.specs.declared.Found.{Found}
-use Rattle.ends.specs.Machine.{Both, acted, arrival, When.anyTime, When.never, silence, given, Happening, Happening.arrives, Happening.host, turn}
+use Rattle.codes.specs.declared.Found.the-variants.{Is}
+use Rattle.step.specs.Step.{stepFound}
+use Rattle.step.proofs.Erred.{restartForgets}
+use Rattle.ends.specs.Machine.{Both, acted, arrival, When.anyTime, When.never, silence, given, Happening, Happening.arrives, Happening.host, turn, after, Reached.start, Reached.atSecond}
 use Rattle.ends.specs.Ends.{inOrder, does, NextIsHeard}
-use Rattle.ends.specs.Calm.{Watched, WatchedEnd, bare, still, Gift, Gift.event, Gift.cut, Gift.lull, Leave.atOnce, Leave.onceCalm, waits, leave, ready, seenCalm, givesKept, keptActs, KeptStart, KeptStart.bothIdle, KeptStart.firstRestarted, KeptStart.secondRestarted, KeptCome, ClaimKept}
+use Rattle.ends.specs.Calm.{Watched, WatchedEnd, watched, bare, still, Gift, Gift.event, Gift.cut, Gift.lull, Leave.atOnce, Leave.onceCalm, waits, leave, ready, seenCalm, givesKept, keptActs, KeptStart, KeptStart.bothIdle, KeptStart.firstRestarted, KeptStart.secondRestarted, KeptCome, ClaimKept, byOther}
 use Rattle.ends.proofs.Machine.{always, mirror, allLost}
 use Rattle.ends.proofs.Marks.{Marks, arrived, hosted, restarted, swapped}
 use Rattle.ends.proofs.Standing.{Stand, mirrored, calm-ready, takes, gets, loses, notes, idly, Holds}
@@ -25,6 +34,9 @@ use Rattle.ends.proofs.Heard.{nextHeard}
 pub waiting : (r : Record) → (r .state ≡ 5) ⊎ (r .state ≡ 12) → cond (waits r) onceCalm atOnce ≡ onceCalm
 waiting r (inl e) = rw e refl
 waiting r (inr e) = rw e refl
+
+pub notWaiting : (r : Record) → (r .state ≡ 5 → ⊥) → (r .state ≡ 12 → ⊥) → cond (waits r) onceCalm atOnce ≡ atOnce
+notWaiting r h k = rw (ne-eqb (r .state) 5 h, ne-eqb (r .state) 12 k) refl
 
 -- what holds of every pair that is reached; c: the first end is controlling
 record Keeps (c : Bool) (x y : WatchedEnd) : Type 0 where
@@ -133,3 +145,37 @@ mirrorKept {a} {b} = mirror turns
     turns x y (bothIdle k j) = bothIdle j k
     turns x y (firstRestarted p q v w) = secondRestarted q p w v
     turns x y (secondRestarted p q v w) = firstRestarted q p w v
+
+-- What the second end sent just before the first one restarted might as well have been sent just after: the restart does not look at its queue. So
+-- from any two legal records with nothing on its way, the pair is reached, though it was not when the second end acted.
+module _ (a b : Bool) (r : Record) (v : T (valid r)) where
+  abbrev Comes : Both Watched Signal → Type 0
+  Comes p = KeptCome a b (p .0) (p .1)
+
+  resets : does a r (Is (Ordered Restart)) ≡ answered forgotten (One Rsc) 0
+  unfolding does stepFound
+  resets = restartForgets a r v
+
+  atLast : (q : List Signal) (t : Record) (j : Bool) → Comes (watched forgotten false q, watched t j (Rsc ∷ []))
+      → Comes (after (keptActs a) (keptActs b) (watched r true q, watched t j []) (byOther []))
+  atLast q t j c = rw resets c
+
+  amid : (events : List Found) (q : List Signal) (t : Record) (j : Bool) → Comes (watched forgotten false q, watched t j (Rsc ∷ []))
+      → Comes (after (keptActs a) (keptActs b) (watched r true q, watched t j []) (byOther events))
+  amid [] q t j c = atLast q t j c
+  amid (e ∷ events) q t j c = by (ready j (leave t e)) (atSecond c (host (event e))) (λ q t j k. amid events q t j k)
+    where
+      step : Bool → WatchedEnd → WatchedEnd → Both Watched Signal
+      step d x y = let p = given (keptActs b) (cond d anyTime never) (event e) y x in (p .1, p .0)
+
+      by : (d : Bool) → Comes (step d (watched forgotten false q) (watched t j (Rsc ∷ [])))
+          → ((q : List Signal) (t : Record) (j : Bool) → Comes (watched forgotten false q, watched t j (Rsc ∷ [])) → Comes (after (keptActs a) (keptActs b) (watched r true q, watched t j []) (byOther events)))
+          → Comes (after (keptActs a) (keptActs b) (step d (watched r true q) (watched t j [])) (byOther events))
+      by true k ih = ih (q ++ inOrder (does b t e .sends)) (does b t e .after) (still (inOrder (does b t e .sends)) j) k
+      by false k ih = ih q t j k
+
+  pub restartedAmid : (t : Record) → T (valid t) → (events : List Found) → Comes (after (keptActs a) (keptActs b) (watched r true [], watched t true []) (byOther events))
+  restartedAmid t w events = amid events [] t true (rw resets at first)
+    where
+      first : Comes (turn (keptActs a) (host cut) (watched r true []) (watched t true []))
+      first = start (firstRestarted (watched r true []) (watched t true []) v w)

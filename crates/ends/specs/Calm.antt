@@ -21,7 +21,7 @@ use Rattle.circuit.specs.Records.{plain, valid}
 use Rattle.circuit.specs.Groups.{controls}
 use Rattle.codes.specs.declared.Found.{Found}
 use Rattle.codes.specs.declared.Found.the-variants.{Is, Missing}
-use Rattle.ends.specs.Machine.{Party, Both, Effect, Acts, When, When.anyTime, When.inSilence, When.losingAll, When.never, Happening.host, turn, Reached}
+use Rattle.ends.specs.Machine.{Party, Both, Effect, Acts, When, When.anyTime, When.inSilence, When.losingAll, When.never, Happening.host, turn, Step, Step.first, Step.second, Reached}
 use Rattle.ends.specs.Ends.{End, end, inOrder, does, awaiting, Agree}
 
 -- a circuit's record at an end, and whether the end is calm
@@ -31,6 +31,9 @@ pub record Watched : Type 0 where
 
 abbrev pub WatchedEnd : Type 0
 WatchedEnd = Party Watched Signal
+
+abbrev pub watched : Record → (calm : Bool) → List Signal → WatchedEnd
+watched r calm w = record { holds = record { of = r; calm = calm }; coming = w }
 
 abbrev pub KeptPair : Type 0
 KeptPair = Both Watched Signal
@@ -115,7 +118,7 @@ keptActs c = record {
 }
 
 abbrev pub idleKept : Bool → WatchedEnd
-idleKept calm = record { holds = record { of = plain 0; calm = calm }; coming = [] }
+idleKept calm = watched (plain 0) calm []
 
 -- Where a run may start, as in `Ends`, whatever is known of the calm: both ends are idle and nothing is on its way, or one of them has just restarted
 -- and lost everything.
@@ -135,3 +138,8 @@ unfoldable pub ClaimKept : Type 0
 ClaimKept =
     (own far cic : ℕ) → (own ≡ far → ⊥) → (x y : WatchedEnd) → KeptCome (controls own far cic) (controls far own cic) x y
     → x .coming ≡ [] → y .coming ≡ [] → T (not (awaiting (bare x))) → T (not (awaiting (bare y))) → Agree (bare x) (bare y)
+
+-- what the second end's host gives, one event after another; then the first end, being calm, restarts, and nothing is lost by that
+abbrev pub byOther : List Found → List (Step Gift)
+byOther [] = first (host (event (Is (Ordered Restart)))) ∷ []
+byOther (e ∷ events) = second (host (event e)) ∷ byOther events

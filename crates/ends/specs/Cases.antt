@@ -12,7 +12,7 @@ use Rattle.codes.specs.declared.Found.{Found}
 use Rattle.codes.specs.Numbers.{eventOf}
 use Rattle.ends.specs.Machine.{Happening, Happening.arrives, Happening.host, Step, Step.first, Step.second, after}
 use Rattle.ends.specs.Ends.{end, idle, Pair, endActs}
-use Rattle.ends.specs.Calm.{WatchedEnd, KeptPair, Gift, Gift.event, Gift.lull, idleKept, keptActs}
+use Rattle.ends.specs.Calm.{watched, KeptPair, Gift, Gift.event, Gift.lull, idleKept, keptActs}
 
 -- what happens at the controlling end, or at the other
 abbrev pub C : Happening Found → Step Found
@@ -187,10 +187,6 @@ KeptRun = List (Step Gift)
 
 abbrev pub ranKept : KeptPair → KeptRun → KeptPair
 ranKept = after (keptActs true) (keptActs false)
-
--- an end with its calm
-abbrev pub watched : Record → Bool → List Signal → WatchedEnd
-watched r calm w = record { holds = record { of = r; calm = calm }; coming = w }
 
 abbrev pub keptCommand : ℕ → ℕ → Happening Gift
 keptCommand code detail = host (event (eventOf 2 code detail))

@@ -30,14 +30,14 @@ use Rattle.codes.specs.Numbers.{eventOf}
 use Rattle.layout.specs.Layout.{recordsIn, allowedAt}
 use Rattle.step.specs.Step.{stepFound}
 use Rattle.group.specs.Table.{stepIn}
-use Rattle.ends.specs.Machine.{When.anyTime, When.never, without, Happening.arrives, Happening.host, Step.first, Step.second, given, turn, Reached.start, Reached.atFirst}
+use Rattle.ends.specs.Machine.{When.anyTime, When.never, without, Happening.arrives, Happening.host, Step.first, Step.second, after, given, turn, Reached.start, Reached.atFirst}
 use Rattle.ends.specs.Ends.{End, end, Pair, inOrder, does, endActs, restart, unheard, Start.firstRestarted, EndsCome}
 use Rattle.ends.specs.Heals.{firstRepeats, delivered, repeated, Quiet, Healed, ClaimHeals, ClaimArrives}
-use Rattle.ends.specs.Calm.{WatchedEnd, KeptPair, still, Gift.event, Gift.cut, Gift.lull, Leave, Leave.atOnce, Leave.onceCalm, leave, ready, keptActs, KeptStart.bothIdle as calmAndIdle, KeptStart.firstRestarted as keptCutAtFirst, KeptCome, ClaimKept}
-use Rattle.ends.specs.Cases.{watched, keptCommand, keptTimer, KeptRun, ranKept, kept, keptRuns, keptLed}
+use Rattle.ends.specs.Calm.{WatchedEnd, watched, KeptPair, still, Gift.event, Gift.cut, Gift.lull, Leave, Leave.atOnce, Leave.onceCalm, leave, ready, keptActs, KeptStart.bothIdle as calmAndIdle, KeptStart.firstRestarted as keptCutAtFirst, KeptCome, ClaimKept, byOther}
+use Rattle.ends.specs.Cases.{keptCommand, keptTimer, KeptRun, ranKept, kept, keptRuns, keptLed}
 use Rattle.ends.proofs.Machine.{allLost}
 use Rattle.ends.proofs.Heals.{afterwards, restartHealsAll, allArrives, repeatsFirst, repeatsSecond}
-use Rattle.ends.proofs.Calm.{waiting, keptEndsAgree, keptNextHeard, mirrorKept}
+use Rattle.ends.proofs.Calm.{waiting, notWaiting, keptEndsAgree, keptNextHeard, mirrorKept, restartedAmid}
 use Rattle.ends.proofs.Plain.{notAwaiting, opposite12, notBoth}
 use Rattle.ends.proofs.Cases.{keptAsTold, keptReached}
 use Rattle.exchanges.specs.Link.{Message, exchange, isAbout, plainly, writesAll, ExchangesCome}
@@ -119,8 +119,8 @@ restartArrives = allArrives
 
 -- THE RULE THAT A HOST CAN KEEP
 
--- An end with the record r and w on its way to it; k tells whether it is calm: it has itself neither sent nor received a signal on the circuit since
--- nothing was on its way. `KeptCome a b x y`: two ends can come to be x and y whose hosts keep the rule.
+-- `watched r k w`: an end with the record r and w on its way to it; k tells whether it is calm: it has itself neither sent nor received a signal on the
+-- circuit since nothing was on its way. `KeptCome a b x y`: two ends can come to be x and y whose hosts keep the rule.
 abbrev KeptPairCome : (a b : Bool) → KeptPair → Type 0
 KeptPairCome a b p = KeptCome a b (p .0) (p .1)
 
@@ -181,6 +181,13 @@ pub calmNeeded : (r : Record) → (r .state ≡ 5) ⊎ (r .state ≡ 12)
     → (leave r (Is (Ordered Restart)) ≡ onceCalm) × (leave r (Is (RunsOut Repeat)) ≡ onceCalm) × (leave r (Is (RunsOut OneMinute)) ≡ onceCalm)
 calmNeeded r s = (refl, waiting r s, waiting r s)
 
+pub calmNotNeededElsewhere : (r : Record) → (r .state ≡ 5 → ⊥) → (r .state ≡ 12 → ⊥)
+    → (leave r (Is (RunsOut Repeat)) ≡ atOnce) × (leave r (Is (RunsOut OneMinute)) ≡ atOnce)
+calmNotNeededElsewhere r h k = (notWaiting r h k, notWaiting r h k)
+
+pub sendingEndsCalm : (s : Signal) (rest : List Signal) (k : Bool) → (still (s ∷ rest) k ≡ false) × (still {M = Signal} [] k ≡ k)
+sendingEndsCalm s rest k = (refl, refl)
+
 pub calmAllows : (ready true onceCalm ≡ true) × (ready false onceCalm ≡ false) × ((k : Bool) → ready k atOnce ≡ true)
 calmAllows = (refl, refl, λ k. refl)
 
@@ -212,6 +219,17 @@ pub keptNeverNext : (own far cic : ℕ) → (own ≡ far → ⊥)
     → Never s (r .state) → ⊥
 keptNeverNext own far cic different r k s w y q n =
     notBoth (unheard (r .state) s) (isUnheard n) (keptNextHeard own far cic different (watched r k (s ∷ w)) y q s w refl)
+
+-- From any two legal records with nothing on its way: the second end's host gives whatever events it likes, as far as the rule allows them, and what
+-- that end sends is on its way; then the first end, which has been still, restarts, and nothing is lost. Two ends can come to that too: so a restart
+-- at a calm end heals whatever was lost before, as one does by which everything is lost.
+pub restartedWhileOtherSends : {a b : Bool} (r t : Record) → T (valid r) → T (valid t) → (events : List Found)
+    → KeptPairCome a b (after (keptActs a) (keptActs b) (watched r true [], watched t true []) (byOther events))
+restartedWhileOtherSends {a} {b} r t v v' events = restartedAmid a b r v t v' events
+
+pub byOtherIs : (e : Found) (events : List Found)
+    → (byOther [] ≡ first (host (event (Is (Ordered Restart)))) ∷ []) × (byOther (e ∷ events) ≡ second (host (event e)) ∷ byOther events)
+byOtherIs e events = (refl, refl)
 
 -- Runs by this rule, from two idle ends that are calm. A call is seized; its end notes that nothing is on its way; an ACM is sent to it; being calm, it
 -- restarts, and the ACM is not lost. All arrives, and both are idle. And timer 4 in 5, too early: nothing happens.
