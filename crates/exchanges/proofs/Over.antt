@@ -98,6 +98,28 @@ module _ (own far cic : ℕ) (table : List ℕ) (g : Good own far cic table) (i 
     low = stillLow;
   }
 
+-- REFUSED 13
+
+-- on the circuit: what is not barred is not refused 13
+notBarred : (own far cic : ℕ) (table : List ℕ) (e : Found) → refused13 own far cic table cic e ≡ false → stepIn own far table cic e .answer .refusal ≡ 13 → ⊥
+notBarred own far cic table e q = eqb-false (stepIn own far table cic e .answer .refusal) 13 (go (eqb (stepIn own far table cic e .answer .refusal) 13) q)
+  where
+    go : (b : Bool) → (b && eqb cic cic) ≡ false → b ≡ false
+    go true q = sym (eq-eqb cic cic refl) ∙ q
+    go false q = refl
+
+-- on any circuit: nothing is barred but what that one refuses 13
+pub barred : (own far cic i : ℕ) (table : List ℕ) (e : Found) → (i ≡ cic → stepIn own far table i e .answer .refusal ≡ 13 → ⊥) → refused13 own far cic table i e ≡ false
+barred own far cic i table e not13 = go (eqb i cic) refl
+  where
+    nothing : (b : Bool) → (b && false) ≡ false
+    nothing true = refl
+    nothing false = refl
+
+    go : (b : Bool) → eqb i cic ≡ b → (eqb (stepIn own far table i e .answer .refusal) 13 && b) ≡ false
+    go true q = rw (ne-eqb (stepIn own far table i e .answer .refusal) 13 (not13 (eqb-true i cic q))) refl
+    go false q = nothing (eqb (stepIn own far table i e .answer .refusal) 13)
+
 -- AN EVENT ON THE CIRCUIT, AND ONE BESIDE IT
 
 module _ (own far cic : ℕ) (table u : List ℕ) (g : Good own far cic table) (k : Good far own cic u) where
@@ -280,7 +302,7 @@ module _ (own far cic : ℕ) where
         where
           go : (b : Bool) → isAbout cic m ≡ b → HoldsPair own far cic (acted (steps own far cic table (cicIn m) e plainly) rest y)
           go true a = subst (λ (i : ℕ). HoldsPair own far cic (acted (steps own far cic table i e plainly) rest y)) (sym (eqb-true (cicIn m) cic a))
-              (onCircuit a (eqb-false _ 13 (subst (λ (i : ℕ). refused13 own far cic table i e ≡ false) (eqb-true (cicIn m) cic a) q)))
+              (onCircuit a (notBarred own far cic table e (subst (λ (i : ℕ). refused13 own far cic table i e ≡ false) (eqb-true (cicIn m) cic a) q)))
           go false a = besideIt own far cic table (y .holds) (h .first) (h .second) (cicIn m) (eqb-false (cicIn m) cic a) e plainly rest (y .coming)
               (unheard (ap (λ (b : Bool). cond b (heardIn F) []) a))
 
@@ -390,7 +412,7 @@ module _ (own far cic : ℕ) where
       where
         go : (d : Bool) → eqb i cic ≡ d → Given i (whenGiven ev)
         go true d = let is : i ≡ cic = eqb-true i cic d in subst (λ (j : ℕ). Given j (whenGiven ev)) (sym is)
-            (givenHere (subst T (sym a) tt) (eqb-false _ 13 (subst (λ (j : ℕ). refused13 own far cic (x .holds) j ev ≡ false) is b)) (whenGiven ev) refl)
+            (givenHere (subst T (sym a) tt) (notBarred own far cic (x .holds) ev (subst (λ (j : ℕ). refused13 own far cic (x .holds) j ev ≡ false) is b)) (whenGiven ev) refl)
         go false d = givenBeside (eqb-false i cic d) (whenGiven ev)
 
   -- octets that neither exchange wrote
@@ -495,7 +517,7 @@ startRestarted own far cic x y hx hy ax ay = go (refused13 own far cic (x .holds
 
     go : (r : Bool) → refused13 own far cic (x .holds) cic (Is (Ordered Restart)) ≡ r
         → HoldsPair own far cic (given (exchangeActs own far cic) (cond (good plainly && not r) losingAll never) (event cic 2 10 0 plainly) x y)
-    go true q = absurd (not13 (eqb-true _ 13 q))
+    go true q = absurd (false≢true (sym (barred own far cic cic (x .holds) (Is (Ordered Restart)) (λ z. not13)) ∙ q))
     go false q = rw (isTrue (good plainly) plainlyGood) done
 
 -- THE OTHER WAY ROUND

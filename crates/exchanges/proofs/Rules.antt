@@ -20,7 +20,7 @@ use Rattle.tup.specs.Entries.{Told}
 use Rattle.ends.specs.Machine.{Both, Effect, When, When.anyTime, When.inSilence, When.losingAll, When.never, whenGiven, none, without, acted, Happening.arrives, Happening.host, given, Reached.start, Reached.atFirst}
 use Rattle.ends.specs.Ends.{inOrder}
 use Rattle.exchanges.specs.Link.{Message, exchange, isAbout, Particulars, good, writesAll, plainly, Gift.event, Gift.heedless, Gift.foreign, Gift.losses, steps, refused13, reads, circuitIn, signalIn, exchangeActs, Has, LinkStart.firstRestarted, ExchangesCome}
-use Rattle.exchanges.proofs.Over.{plainlyGood, notThirteen}
+use Rattle.exchanges.proofs.Over.{barred, plainlyGood, notThirteen}
 
 module _ (own far cic : ℕ) (t u : List ℕ) (w v : List Message) where
   abbrev Come : Both (List ℕ) Message → Type 0
@@ -49,12 +49,13 @@ module _ (own far cic : ℕ) (t u : List ℕ) (w v : List Message) where
     dropped refused q = subst (λ (l : List Message). ExchangesCome own far cic (exchange t w) (exchange u l)) (append-nil v)
         (subst (λ (a : Bool). Arrived a by13) (ne-eqb (read .answer) 0 refused) (atFirst q arrives))
 
-    pub taken : read .answer ≡ 0 → (stepIn own far t (circuitIn own far cic (read .buffer)) (signalIn own far cic (read .buffer)) .answer .refusal ≡ 13 → ⊥)
+    pub taken : read .answer ≡ 0 → let i = circuitIn own far cic (read .buffer) in
+        (i ≡ cic → stepIn own far t i (signalIn own far cic (read .buffer)) .answer .refusal ≡ 13 → ⊥)
         → At (m ∷ w) → Come (acted done w (exchange u v))
-    taken accepted not13 q = subst (Arrived true) (ne-eqb _ 13 not13) (subst (λ (a : Bool). Arrived a by13) (eq-eqb (read .answer) 0 accepted) (atFirst q arrives))
+    taken accepted not13 q = subst (Arrived true) (barred own far cic (circuitIn own far cic (read .buffer)) t (signalIn own far cic (read .buffer)) not13) (subst (λ (a : Bool). Arrived a by13) (eq-eqb (read .answer) 0 accepted) (atFirst q arrives))
 
   -- an event that the host gives
-  module _ (i kind code detail : ℕ) (p : Particulars) (well : T (good p)) (not13 : stepIn own far t i (eventOf kind code detail) .answer .refusal ≡ 13 → ⊥) where
+  module _ (i kind code detail : ℕ) (p : Particulars) (well : T (good p)) (not13 : i ≡ cic → stepIn own far t i (eventOf kind code detail) .answer .refusal ≡ 13 → ⊥) where
     abbrev e : Found
     e = eventOf kind code detail
 
@@ -65,7 +66,7 @@ module _ (own far cic : ℕ) (t u : List ℕ) (w v : List Message) where
     timely k is q = subst Given is (subst (λ (b : Bool). Given (cond b (whenGiven e) never)) allowed (atFirst q (host (event i kind code detail p))))
       where
         allowed : (good p && not (refused13 own far cic t i e)) ≡ true
-        allowed = rw (isTrue (good p) well, ne-eqb (stepIn own far t i e .answer .refusal) 13 not13) refl
+        allowed = rw (isTrue (good p) well, barred own far cic i t e not13) refl
 
     pub inQuiet : whenGiven e ≡ inSilence → T (none (isAbout i) w) → T (none (isAbout i) v) → At w → Come (acted (steps own far cic t i e p) w (exchange u v))
     inQuiet is nw nv q = subst (λ (b : Bool). Come (cond b (acted (steps own far cic t i e p) w (exchange u v)) (exchange t w, exchange u v)))
@@ -100,4 +101,4 @@ restarting own far cic t u w v g h g' h' a a' =
     here = record { group = g; circuit = h }
 
     allowed : (good plainly && not (refused13 own far cic t cic (Is (Ordered Restart)))) ≡ true
-    allowed = rw (isTrue (good plainly) plainlyGood, ne-eqb (stepIn own far t cic (Is (Ordered Restart)) .answer .refusal) 13 (notThirteen own far cic t here a)) refl
+    allowed = rw (isTrue (good plainly) plainlyGood, barred own far cic cic t (Is (Ordered Restart)) (λ z. notThirteen own far cic t here a)) refl

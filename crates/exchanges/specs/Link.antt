@@ -114,8 +114,9 @@ module _ (own far watched : ℕ) where
     sends = writesAll own far (recordsIn (length table)) cic p (inOrder (stepIn own far table cic e .answer .sends));
   }
 
+  -- the circuit that is looked at refuses it 13
   abbrev pub refused13 : List ℕ → (cic : ℕ) → Found → Bool
-  refused13 table cic e = eqb (stepIn own far table cic e .answer .refusal) 13
+  refused13 table cic e = eqb (stepIn own far table cic e .answer .refusal) 13 && eqb cic watched
 
   -- a message that arrives is read into 23 octets; one that is refused is dropped, any other is given to the circuit that it names
   abbrev pub reads : List ℕ → Message → Told
@@ -134,7 +135,7 @@ module _ (own far watched : ℕ) where
   abbrev pub sticking : List ℕ → Told → Bool
   sticking table r = eqb (r .answer) 0 && refused13 table (circuitIn (r .buffer)) (signalIn (r .buffer))
 
-  -- The host's event: with good particulars, while it is not refused 13. All else may be at any time, but not on the circuit that is looked at.
+  -- The host's event: with good particulars, unless the circuit that is looked at refuses it 13. All else may be at any time, but not on that circuit.
   abbrev pub whenGift : List ℕ → Gift → When
   whenGift table (event cic kind code detail p) =
       cond (good p && not (refused13 table cic (eventOf kind code detail))) (whenGiven (eventOf kind code detail)) never

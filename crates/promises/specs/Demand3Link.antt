@@ -82,17 +82,18 @@ module _ {own far cic : ℕ} where
         → ExchangesCome own far cic (exchange t (m ∷ w)) (exchange u v) → ExchangesCome own far cic (exchange t w) (exchange u v)
     messageDropped {m} = dropped own far cic t u w v m
 
-    -- any other is given to the circuit that it names, unless that refuses 13
+    -- any other is given to the circuit that it names, unless that is the one looked at and refuses it 13.
     pub messageTaken : {m : Message} → let read = readInto own far (recordsIn (length t)) m (replicate 23 0) in
         let i = numberOf (getD (read .buffer) 0 0 ∷ getD (read .buffer) 1 0 ∷ []) in
         let e = eventOf 1 (getD (read .buffer) 2 0) (getD (read .buffer) 3 0) in
-        read .answer ≡ 0 → (stepIn own far t i e .answer .refusal ≡ 13 → ⊥)
+        read .answer ≡ 0 → (i ≡ cic → stepIn own far t i e .answer .refusal ≡ 13 → ⊥)
         → ExchangesCome own far cic (exchange t (m ∷ w)) (exchange u v)
         → ExchangesCome own far cic (exchange (stepIn own far t i e .table) w) (exchange u (v ++ writesAll own far (recordsIn (length t)) i plainly (inOrder (stepIn own far t i e .answer .sends))))
     messageTaken {m} = taken own far cic t u w v m
 
-    -- The host gives an event on any circuit by its numbers, with good particulars, while it is not refused 13: at any time, and nothing is lost;
-    module _ (i kind code detail : ℕ) (p : Particulars) (well : T (good p)) (not13 : stepIn own far t i (eventOf kind code detail) .answer .refusal ≡ 13 → ⊥) where
+    -- The host gives an event on any circuit by its numbers, with good particulars, unless the circuit looked at refuses it 13: at any time, and nothing
+    -- is lost;
+    module _ (i kind code detail : ℕ) (p : Particulars) (well : T (good p)) (not13 : i ≡ cic → stepIn own far t i (eventOf kind code detail) .answer .refusal ≡ 13 → ⊥) where
       pub givenAnyTime : whenGiven (eventOf kind code detail) ≡ anyTime → ExchangesCome own far cic (exchange t w) (exchange u v)
           → let answer = stepIn own far t i (eventOf kind code detail) in
           ExchangesCome own far cic (exchange (answer .table) w) (exchange u (v ++ writesAll own far (recordsIn (length t)) i p (inOrder (answer .answer .sends))))
