@@ -1,7 +1,9 @@
 /* Two exchanges over one link: several circuits, and one queue of octets a direction, in which the messages of all are mixed. Both
    ends are run by tup_step; every signal is written by tup_write, and the oldest octets on their way are read by tup_read and given
    to the circuit that they name. The hosts do anything at any time, as far as demand 3 allows it (docs/RULES.md): a restart loses
-   the messages of its own circuit, in both directions, and timers 4 to 6 wait until none of these is on its way.
+   the messages of its own circuit, in both directions, and timers 4 to 6 wait until none of these is on its way. In every second
+   episode they go by what a host can see: timers 4 and 5 in states 5 and 12 wait until their end is calm, and by a restart at an end
+   that is calm nothing is lost.
    Whenever none of a circuit's messages is on its way, whatever the link carries of other circuits, the two ends must agree in
    states and blocks unless one awaits reset: an end may rest awaiting release-guard only opposite one that awaits reset. And no
    nonsense may ever arrive where a call awaits address complete.
@@ -50,14 +52,19 @@ static struct queue {
 } way[2];
 static unsigned on_way[MOST + 1];
 
+/* Whether an end is calm on a circuit: it has itself neither sent nor received anything on it since nothing was on its way there.
+   by_calm: the hosts of this episode go by that. */
+static int calm[2][MOST + 1], by_calm;
+
 static uint32_t aside;            /* the circuit set aside: its ends are not compared */
 static int to_be_restarted[MOST]; /* before anything else happens on the circuit */
 
-static struct { unsigned end; uint32_t circuit, kind, code, detail; } now;
+static struct { unsigned end; uint32_t circuit, kind, code, detail; int waiting; } now; /* waiting: release-guard or reset was awaited */
 static struct {
     unsigned long events, refused, bad_records, from_idle, from_any, restarted_first, set_anew, in_seized, longest;
     unsigned long quiet, apart[STATES][STATES], marks[2][2], reset, guard_opposite_reset, amid_others, others, most_others;
     unsigned long indications[INDICATIONS], headings[256], timers[TIMERS];
+    unsigned long calm_episodes, calm_restarts, calm_repeats;
     unsigned long lost, restarts_amid_others, foreign[FOREIGN], dropped[REFUSALS];
 } seen;
 
@@ -84,6 +91,11 @@ static void describe(void)
                    tup_record_flags(at_first[end], now.circuit));
         printf("\n");
     }
+}
+
+static int awaits(uint32_t state)
+{
+    return state == TUP_AWAITING_RELEASE_GUARD || state == TUP_AWAITING_RESET;
 }
 
 /* Whether both ends have the circuit, and all that is said about it is said by them. */
@@ -278,6 +290,7 @@ static void send(unsigned end, uint32_t circuit, uint32_t heading, uint32_t deta
     if (circuit >= group[1 - end].circuits)
         message.refusal = TUP_NO_SUCH_CIRCUIT;
     put(end, &message);
+    calm[end][circuit] = 0;
     seen.headings[heading] += compared(circuit) != 0;
 }
 
@@ -315,11 +328,22 @@ static void expect_sense(void)
         differ("heading %02x arrives before address complete", now.code);
 }
 
+/* A restart loses the circuit's messages, unless its end is calm and its host goes by that. */
+static void restarted(void)
+{
+    if (by_calm && calm[now.end][now.circuit])
+        seen.calm_restarts += on_way[now.circuit] > 0;
+    else
+        lose(now.circuit);
+}
+
 /* What is sent goes behind what a restart has left on the link. */
 static void taken(uint64_t answer)
 {
     if (now.kind == TUP_COMMAND && now.code == TUP_RESTART)
-        lose(now.circuit);
+        restarted();
+    else if (now.kind == TUP_TIMER && now.waiting)
+        seen.calm_repeats += on_way[now.circuit] > 0;
     send(now.end, now.circuit, tup_answer_first(answer), now.detail);
     send(now.end, now.circuit, tup_answer_second(answer), now.detail);
     if (!compared(now.circuit))
@@ -337,6 +361,7 @@ static void event(unsigned end, uint32_t circuit, uint32_t kind, uint32_t code, 
     uint8_t before[sizeof table[0]];
     memcpy(before, table[end], sizeof before);
     now.end = end, now.circuit = circuit, now.kind = kind, now.code = code, now.detail = detail;
+    now.waiting = awaits(state_at(end, circuit));
     expect_sense();
     uint64_t answer = tup_step(at->own, at->far, table[end], TUP_TABLE_OCTETS(at->circuits), circuit, kind, code, detail);
     seen.events++;
@@ -347,7 +372,10 @@ static void event(unsigned end, uint32_t circuit, uint32_t kind, uint32_t code, 
         expect_all_kept(end, before);
         expect_refusal(tup_answer_refusal(answer));
     }
-    if (compared(circuit) && on_way[circuit] == 0)
+    if (on_way[circuit] > 0)
+        return;
+    calm[0][circuit] = calm[1][circuit] = 1;
+    if (compared(circuit))
         agree(circuit);
 }
 
@@ -370,6 +398,7 @@ static void arrive(unsigned end)
     }
     if (tup_message_circuit(fields) != message.about)
         differ("the circuit read is %u and should be %u", tup_message_circuit(fields), message.about);
+    calm[end][message.about] = 0;
     event(end, message.about, TUP_SIGNAL, fields[TUP_MESSAGE_HEADING], fields[TUP_MESSAGE_ACM]);
 }
 
@@ -408,6 +437,8 @@ static void clear_link(void)
 {
     way[0].count = way[1].count = 0;
     memset(on_way, 0, sizeof on_way);
+    for (unsigned circuit = 0; circuit <= MOST; circuit++)
+        calm[0][circuit] = calm[1][circuit] = 1;
 }
 
 /* The circuit set aside has any two octets at one time, nearly always bad ones, and at another a legal record, so that more happens
@@ -430,6 +461,8 @@ static void begin_episode(int from_any)
     uint32_t circuits = LEAST + draw(MOST - LEAST + 1), others = LEAST + draw(MOST - LEAST + 1);
     set_groups(code, other, circuits, others);
     aside = draw(circuits < others ? circuits : others);
+    by_calm = (int)draw(2);
+    seen.calm_episodes += by_calm != 0;
     clear_link();
     for (unsigned end = 0; end < 2; end++) {
         pattern(table[end], sizeof table[end]);
@@ -455,15 +488,23 @@ static void give_command(unsigned end, uint32_t circuit)
     event(end, circuit, TUP_COMMAND, command, detail);
 }
 
+/* Whether one of timers 4 to 6 may run out. By what a host can see, only 4 and 5 wait, where a CLF or an RSC would be sent again. */
+static int may_run_out(unsigned end, uint32_t circuit, uint32_t timer)
+{
+    if (!by_calm)
+        return on_way[circuit] == 0;
+    return timer == TUP_TIMER_BLOCK_REPEAT || !awaits(state_at(end, circuit)) || calm[end][circuit];
+}
+
 static void host_event(unsigned end, uint32_t circuit)
 {
-    uint32_t choice = draw(16);
+    uint32_t choice = draw(16), timer = TUP_TIMER_REPEAT + draw(3);
     if (to_be_restarted[circuit]) {
         to_be_restarted[circuit] = 0;
         seen.restarted_first++;
         event(end, circuit, TUP_COMMAND, TUP_RESTART, 0);
-    } else if (choice == 0 && on_way[circuit] == 0)
-        event(end, circuit, TUP_TIMER, TUP_TIMER_REPEAT + draw(3), 0);
+    } else if (choice == 0 && may_run_out(end, circuit, timer))
+        event(end, circuit, TUP_TIMER, timer, 0);
     else if (choice == 1 && chance(4))
         event(end, circuit, TUP_TIMER, TUP_TIMER_ADDRESS + draw(3), 0);
     else
@@ -546,11 +587,6 @@ static int settle(unsigned record, unsigned other, unsigned restarting)
         differ("restarted by end %u, and not idle in the end", restarting);
     agree(0);
     return end < 2;
-}
-
-static int awaits(uint32_t state)
-{
-    return state == TUP_AWAITING_RELEASE_GUARD || state == TUP_AWAITING_RESET;
 }
 
 /* Timer 4 is needed exactly where the end that does not restart was itself awaiting an answer. */
@@ -642,6 +678,10 @@ int main(void)
             seen.events, seen.refused, seen.bad_records, seen.quiet);
     covered("%lu episodes from idle, %lu from any legal records with %lu restarts; counter and ranks set by a host %lu times",
             seen.from_idle, seen.from_any, seen.restarted_first, seen.set_anew);
+    covered("%lu episodes by what a host can see: %lu restarts that lost nothing, %lu repeats, with messages on their way", seen.calm_episodes,
+            seen.calm_restarts, seen.calm_repeats);
+    expect_seen(seen.calm_restarts, "a restart at a calm end with messages on their way", 0);
+    expect_seen(seen.calm_repeats, "timer 4 or 5 at a calm end with messages on their way", 0);
     expect_seen(seen.bad_records, "a bad record on the circuit set aside", 0);
     expect_seen(seen.from_idle, "an episode from idle", 0);
     expect_seen(seen.restarted_first, "a restart from any legal records", 0);
