@@ -1,9 +1,9 @@
 /* Two exchanges over one link: several circuits, and one queue of octets a direction, in which the messages of all are mixed. Both
    ends are run by tup_step; every signal is written by tup_write, and the oldest octets on their way are read by tup_read and given
    to the circuit that they name. The hosts do anything at any time, as far as demand 3 allows it (docs/RULES.md): a restart loses
-   the messages of its own circuit, in both directions, and timers 4 to 6 wait until none of these is on its way. In every second
-   episode they go by what a host can see: timers 4 and 5 in states 5 and 12 wait until their end is calm, and by a restart at an end
-   that is calm nothing is lost.
+   the messages of its own circuit, in both directions, and timers 4 to 6 wait until none of these is on its way. In half of the
+   episodes they go by what a host can see: timers 4 and 5 in states 5 and 12 wait until their end is calm, and a restart at an end
+   that is calm loses nothing.
    Whenever none of a circuit's messages is on its way, whatever the link carries of other circuits, the two ends must agree in
    states and blocks unless one awaits reset: an end may rest awaiting release-guard only opposite one that awaits reset. And no
    nonsense may ever arrive where a call awaits address complete.
@@ -59,7 +59,8 @@ static int calm[2][MOST + 1], by_calm;
 static uint32_t aside;            /* the circuit set aside: its ends are not compared */
 static int to_be_restarted[MOST]; /* before anything else happens on the circuit */
 
-static struct { unsigned end; uint32_t circuit, kind, code, detail; int waiting; } now; /* waiting: release-guard or reset was awaited */
+/* The event that happens; waiting: the end awaited release-guard or reset before it. */
+static struct { unsigned end; uint32_t circuit, kind, code, detail; int waiting; } now;
 static struct {
     unsigned long events, refused, bad_records, from_idle, from_any, restarted_first, set_anew, in_seized, longest;
     unsigned long quiet, apart[STATES][STATES], marks[2][2], reset, guard_opposite_reset, amid_others, others, most_others;
@@ -488,7 +489,7 @@ static void give_command(unsigned end, uint32_t circuit)
     event(end, circuit, TUP_COMMAND, command, detail);
 }
 
-/* Whether one of timers 4 to 6 may run out. By what a host can see, only 4 and 5 wait, where a CLF or an RSC would be sent again. */
+/* Whether one of timers 4 to 6 may run out. By what a host can see only 4 and 5 wait, where a CLF or an RSC would go out again. */
 static int may_run_out(unsigned end, uint32_t circuit, uint32_t timer)
 {
     if (!by_calm)
@@ -678,8 +679,8 @@ int main(void)
             seen.events, seen.refused, seen.bad_records, seen.quiet);
     covered("%lu episodes from idle, %lu from any legal records with %lu restarts; counter and ranks set by a host %lu times",
             seen.from_idle, seen.from_any, seen.restarted_first, seen.set_anew);
-    covered("%lu episodes by what a host can see: %lu restarts that lost nothing, %lu repeats, with messages on their way", seen.calm_episodes,
-            seen.calm_restarts, seen.calm_repeats);
+    covered("%lu episodes by what a host can see, with %lu restarts that lost nothing and %lu repeats amid messages on their way",
+            seen.calm_episodes, seen.calm_restarts, seen.calm_repeats);
     expect_seen(seen.calm_restarts, "a restart at a calm end with messages on their way", 0);
     expect_seen(seen.calm_repeats, "timer 4 or 5 at a calm end with messages on their way", 0);
     expect_seen(seen.bad_records, "a bad record on the circuit set aside", 0);
