@@ -4,12 +4,14 @@
 -- contracts of the archive's entries cite.
 -- Assumes nothing.
 use mathlib.Core.Path.{_≡_, refl}
-use mathlib.Core.Bool.{Bool, false, cond, not, _&&_}
+use mathlib.Core.Bool.{Bool, true, false, cond, not, _&&_}
 use mathlib.Core.List.{List, [], _∷_, _++_}
 use Prim.Native.Nat.{ℕ, _/_, _%_, _<_}
 use lib.Dec.{T, eqb, leb}
 use lib.ListN.{length, take, getD, replicate}
+use Rattle.circuit.specs.declared.Failure.{Failure}
 use Rattle.circuit.specs.declared.Signal.{Signal}
+use Rattle.circuit.specs.declared.Signal.the-variants.{Iam, Acm, Anc, Ann, Cbk, Clf, Ran, Rlg, Blo, Bla, Ubl, Uba, Rsc, Fail}
 use Rattle.circuit.specs.Groups.{badGroup}
 use Rattle.circuit.proofs.Every.{both}
 use Rattle.codes.specs.declared.Named.the-variants.{Known}
@@ -41,6 +43,14 @@ use Rattle.promises.specs.Demand3.{AgreeOn, agreeOn, Never, isUnheard}
 pub aboutIs : (cic : ℕ) (m : Message) → isAbout cic m ≡ eqb (cicIn m) cic
 aboutIs cic m = refl
 
+-- none of the messages on their way is such, and those that are left where such are lost
+pub noneIs : (such : Message → Bool) (m : Message) (w : List Message) → (none such [] ≡ true) × (none such (m ∷ w) ≡ (not (such m) && none such w))
+noneIs such m w = (refl, refl)
+
+pub withoutIs : (such : Message → Bool) (m : Message) (w : List Message)
+    → (without such [] ≡ []) × (without such (m ∷ w) ≡ cond (such m) (without such w) (m ∷ without such w))
+withoutIs such m w = (refl, refl)
+
 -- What the host chooses for what it sends is good: an ACM's octet and an IAM's category have no spare bit, nor have its indicators; the address is of 1 to
 -- 15 codes, none of them above 15, spare, or ST before the end; and the buffer that it lends to the writer has 17 octets or more.
 pub goodIs : (acm category indicators : ℕ) (address buffer : List ℕ)
@@ -61,6 +71,16 @@ pub eachGoesOut : (own far count cic : ℕ) (p : Particulars) (s : Signal) (rest
     (p .buffer) in
     writesAll own far count cic p (s ∷ rest) ≡ cond (eqb (w .answer % 256) 0) (take (w .answer / 256) (w .buffer) ∷ []) [] ++ writesAll own far count cic p rest
 eachGoesOut own far count cic p s rest = refl
+
+abbrev allChosen : Particulars → List Signal → List Signal
+allChosen p [] = []
+allChosen p (s ∷ rest) = chosen p s ∷ allChosen p rest
+
+-- an ACM has the octet that the host chose, and no other signal is changed
+pub chosenIs : (p : Particulars) (octet : ℕ) (f : Failure)
+    → allChosen p (Acm octet ∷ Iam ∷ Anc ∷ Ann ∷ Cbk ∷ Clf ∷ Ran ∷ Rlg ∷ Blo ∷ Bla ∷ Ubl ∷ Uba ∷ Rsc ∷ Fail f ∷ [])
+    ≡ Acm (p .acm) ∷ Iam ∷ Anc ∷ Ann ∷ Cbk ∷ Clf ∷ Ran ∷ Rlg ∷ Blo ∷ Bla ∷ Ubl ∷ Uba ∷ Rsc ∷ Fail f ∷ []
+chosenIs p octet f = refl
 
 -- the exchanges are reached
 abbrev Come : (own far cic : ℕ) → Both (List ℕ) Message → Type 0
