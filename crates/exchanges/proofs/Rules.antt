@@ -20,7 +20,9 @@ use Rattle.tup.specs.Entries.{Told}
 use Rattle.ends.specs.Machine.{Both, Effect, When, When.anyTime, When.inSilence, When.losingAll, When.never, whenGiven, none, without, acted, Happening.arrives, Happening.host, given, Reached.start, Reached.atFirst}
 use Rattle.ends.specs.Ends.{inOrder}
 use Rattle.exchanges.specs.Link.{Message, exchange, isAbout, Particulars, good, writesAll, plainly, Gift.event, Gift.heedless, Gift.foreign, Gift.losses, steps, refused13, reads, circuitIn, signalIn, exchangeActs, Has, LinkStart.firstRestarted, ExchangesCome}
-use Rattle.exchanges.proofs.Over.{barred, plainlyGood, notThirteen}
+use Rattle.exchanges.proofs.Carried.{barred}
+use Rattle.exchanges.proofs.Arrives.{plainlyGood}
+use Rattle.exchanges.proofs.Over.{notThirteen}
 
 module _ (own far cic : ℕ) (t u : List ℕ) (w v : List Message) where
   abbrev Come : Both (List ℕ) Message → Type 0
