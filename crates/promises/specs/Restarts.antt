@@ -31,7 +31,7 @@ use Rattle.layout.specs.Layout.{recordsIn, allowedAt}
 use Rattle.step.specs.Step.{stepFound}
 use Rattle.group.specs.Table.{stepIn}
 use Rattle.ends.specs.Machine.{When.anyTime, When.never, without, Happening.arrives, Happening.host, Step.first, Step.second, after, given, turn, Reached.start, Reached.atFirst}
-use Rattle.ends.specs.Ends.{End, end, Pair, inOrder, does, endActs, restart, unheard, Start.firstRestarted, EndsCome}
+use Rattle.ends.specs.Ends.{End, end, inOrder, does, endActs, restart, unheard, Start.firstRestarted, EndsCome}
 use Rattle.ends.specs.Heals.{firstRepeats, delivered, repeated, Quiet, Healed, ClaimHeals, ClaimArrives}
 use Rattle.ends.specs.Calm.{WatchedEnd, watched, KeptPair, still, Gift.event, Gift.cut, Gift.lull, Leave, Leave.atOnce, Leave.onceCalm, leave, ready, keptActs, KeptStart.bothIdle as calmAndIdle, KeptStart.firstRestarted as keptCutAtFirst, KeptCome, ClaimKept, byOther}
 use Rattle.ends.specs.Cases.{keptCommand, keptTimer, KeptRun, ranKept, kept, keptRuns, keptLed}
@@ -46,10 +46,16 @@ use Rattle.promises.specs.Demand3.{AgreeOn, agreeOn, Never, isUnheard}
 
 -- DEMAND 3 HOLDS FROM THERE ON
 
--- From any two legal records, whatever was on its way, which a restart loses: after it the end that restarted is in 12 with no flag, its RSC is on its way
--- and nothing else is. From there two ends come to whatever `Demand3` speaks of, as they do from idle.
-pub endsRestarted : {a b : Bool} (r t : Record) → T (valid r) → T (valid t) → EndsCome a b (end (plain 12) []) (end t (Rsc ∷ []))
-endsRestarted {a} {b} r t v v' = subst (λ (p : Pair). EndsCome a b (p .0) (p .1)) (afterwards a (end r []) (end t []) v) (start (firstRestarted (end r []) (end t []) v v'))
+-- A restart at the first end, whatever legal record it held and whatever was on its way, which is lost: after it that end is in 12 with no flag, its RSC
+-- is on its way and nothing else is.
+pub restartGives : (a : Bool) (r t : Record) (w v : List Signal) → T (valid r)
+    → turn (endActs a) (host (Is (Ordered Restart))) (end r w) (end t v) ≡ (end (plain 12) [], end t (Rsc ∷ []))
+restartGives a r t w v = afterwards a (end r w) (end t v)
+
+-- From any two legal records: after a restart at the first end two ends come to whatever `Demand3` speaks of, as they do from idle.
+pub endsRestarted : {a b : Bool} (r t : Record) (w v : List Signal) → T (valid r) → T (valid t)
+    → let p = turn (endActs a) (host (Is (Ordered Restart))) (end r w) (end t v) in EndsCome a b (p .0) (p .1)
+endsRestarted r t w v good good' = start (firstRestarted (end r w) (end t v) good good')
 
 -- The same over the link, on any circuit that both exchanges have, whose two octets are legal in both tables: its messages are lost, in both directions,
 -- and no other's.
@@ -88,6 +94,9 @@ firstRepeating = repeatsFirst
 pub secondRepeating : (a b : Bool) (r t : Record) → firstRepeats a b (end r [], end t []) ≡ false
     → repeated a b (end r [], end t []) ≡ (end r (inOrder (stepFound b t (Is (RunsOut Repeat)) .sends)), end (stepFound b t (Is (RunsOut Repeat)) .after) [])
 secondRepeating = repeatsSecond
+
+pub restartIs : restart ≡ host (Is (Ordered Restart))
+restartIs = refl
 
 -- From any two legal records a restart at the first end, then all arrives in whatever order: once nothing is on its way, both ends are idle and each
 -- far-block mark equals the other end's own block; or that is so once timer 4 has run out in that silence and all has arrived again.
