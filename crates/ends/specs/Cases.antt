@@ -128,6 +128,11 @@ ublRepeated = ublLost ++ (N (timer 6) ∷ [])
 abbrev iamLost : Run
 iamLost = C (command 1 0) ∷ C (command 10 0) ∷ []
 
+-- the run that docs/TWO-ENDS.md works out: dual seizure, a whole call while nothing arrives at the controlling end, its release, and a new call the other way
+abbrev worked : Run
+worked = C (command 1 0) ∷ N (command 1 0) ∷ N arrives ∷ N (command 3 0) ∷ N (command 4 0) ∷ N (command 5 0) ∷ C (command 2 0) ∷ N arrives ∷ N (command 1 0)
+    ∷ C arrives ∷ C arrives ∷ C arrives ∷ C arrives ∷ C arrives ∷ C arrives ∷ []
+
 -- with these signals on their way
 abbrev pub underWay : (c : Record) → List Signal → (n : Record) → List Signal → Pair
 underWay c w n v = (end c w, end n v)
@@ -165,6 +170,7 @@ cases =
     ∷ record { steps = ublLost; pair = atRest (plain 0) (rec 0 false false false true) }
     ∷ record { steps = ublRepeated; pair = underWay (plain 0) (Ubl ∷ []) (rec 0 false false false true) [] }
     ∷ record { steps = iamLost; pair = underWay (plain 12) [] (plain 0) (Rsc ∷ []) }
+    ∷ record { steps = worked; pair = atRest (plain 6) (plain 1) }
     ∷ []
 
 -- the runs, the pairs to which they lead, and the pairs that are told

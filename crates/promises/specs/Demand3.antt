@@ -191,7 +191,7 @@ neverNext own far cic different r s w y q n = notBoth (unheard (r .state) s) (is
 -- Runs from two idle ends, C at the end that controls the circuit and N at the other, with commands (code, detail) and timers by their
 -- numbers: each of the stages, re-answer, a release, a failed call, dual seizure, blocks at one end and at both and the end of one, BLO crossing IAM, a
 -- restart that loses what is on its way to the end that restarts, a CLF lost by one, its repetition by timer 4, timers 1, 2, 3 and 5, a UBL lost by a
--- restart and its repetition by timer 6, and a restart that loses what is on its way to the other end.
+-- restart and its repetition by timer 6, a restart that loses what is on its way to the other end, and the run that docs/TWO-ENDS.md works out.
 pub runsShown : runs cases
     ≡ (C (command 1 0) ∷ N arrives ∷ [])
     ∷ (C (command 1 0) ∷ N arrives ∷ N (command 3 0) ∷ C arrives ∷ [])
@@ -218,6 +218,8 @@ pub runsShown : runs cases
     ∷ (N (command 8 0) ∷ C arrives ∷ N arrives ∷ N (command 9 0) ∷ C (command 10 0) ∷ N arrives ∷ C arrives ∷ [])
     ∷ (N (command 8 0) ∷ C arrives ∷ N arrives ∷ N (command 9 0) ∷ C (command 10 0) ∷ N arrives ∷ C arrives ∷ N (timer 6) ∷ [])
     ∷ (C (command 1 0) ∷ C (command 10 0) ∷ [])
+    ∷ (C (command 1 0) ∷ N (command 1 0) ∷ N arrives ∷ N (command 3 0) ∷ N (command 4 0) ∷ N (command 5 0) ∷ C (command 2 0) ∷ N arrives ∷ N (command 1 0)
+    ∷ C arrives ∷ C arrives ∷ C arrives ∷ C arrives ∷ C arrives ∷ C arrives ∷ [])
     ∷ []
 runsShown = refl
 
@@ -246,6 +248,7 @@ pub pairsShown : led cases
     ∷ (end (plain 0) [], end (rec 0 false false false true) [])
     ∷ (end (plain 0) (Ubl ∷ []), end (rec 0 false false false true) [])
     ∷ (end (plain 12) [], end (plain 0) (Rsc ∷ []))
+    ∷ (end (plain 6) [], end (plain 1) [])
     ∷ []
 pairsShown = asTold
 
