@@ -21,8 +21,8 @@ use Rattle.codes.specs.declared.Found.{Found}
 use Rattle.codes.specs.declared.Found.the-variants.{Is}
 use Rattle.step.specs.Step.{step, stepFound}
 use Rattle.step.proofs.Erred.{restartForgets}
-use Rattle.ends.specs.Machine.{none, Happening.host}
-use Rattle.ends.specs.Ends.{End, end, Pair, inOrder, does, marks}
+use Rattle.ends.specs.Machine.{none, Happening.host, after}
+use Rattle.ends.specs.Ends.{End, end, Pair, inOrder, does, endActs, marks}
 use Rattle.ends.specs.Heals.{at, delivered, firstRepeats, repeated, Quiet, Healed, afterRestart, ClaimHeals, turns, ClaimArrives}
 use Rattle.ends.proofs.Machine.{allLost}
 use Rattle.ends.proofs.Events.{eachRecord, atRecord}
@@ -217,12 +217,12 @@ module _ (a b : Bool) (r t : Record) where
   abbrev timer4 : Found
   timer4 = Is (RunsOut Repeat)
 
-  pub repeatsFirst : firstRepeats a b quietPair ≡ true
+  pub repeatsFirst : firstRepeats quietPair ≡ true
       → repeated a b quietPair ≡ (end (stepFound a r timer4 .after) [], end t (inOrder (stepFound a r timer4 .sends)))
   unfolding repeated does
-  repeatsFirst e = ap (λ (f : Bool). at a b f (host timer4) quietPair) e
+  repeatsFirst e = ap (λ (f : Bool). after (endActs a) (endActs b) quietPair (at f (host timer4) ∷ [])) e
 
-  pub repeatsSecond : firstRepeats a b quietPair ≡ false
+  pub repeatsSecond : firstRepeats quietPair ≡ false
       → repeated a b quietPair ≡ (end r (inOrder (stepFound b t timer4 .sends)), end (stepFound b t timer4 .after) [])
   unfolding repeated does
-  repeatsSecond e = ap (λ (f : Bool). at a b f (host timer4) quietPair) e
+  repeatsSecond e = ap (λ (f : Bool). after (endActs a) (endActs b) quietPair (at f (host timer4) ∷ [])) e

@@ -8,6 +8,7 @@ use lib.Dec.{T, eqb, eqb→eq}
 use borrow.Author.Tests.{ne-eqb}
 use Rattle.circuit.specs.declared.Signal.the-variants.{Rlg}
 use Rattle.circuit.proofs.Every.{left, right}
+use Rattle.ends.proofs.Words.{and-false}
 use Rattle.ends.specs.Ends.{sameStage, awaitsReset, marks, unheard}
 
 byCases : {X : Type 0} (a b : Bool) → (T a → X) → (T b → X) → T (a || b) → X
@@ -64,11 +65,7 @@ notBoth false t n = t
 
 -- no stage has an end in 5, so an end that rests there is opposite one in 12
 no5 : (t : ℕ) → T (sameStage 5 t || sameStage t 5) → ⊥
-no5 t = rw (nor (eqb t 0), nor (eqb t 1), nor (eqb t 2), nor (eqb t 3), nor (eqb t 4)) (λ h. h)
-  where
-    nor : (a : Bool) → (a && false) ≡ false
-    nor true = refl
-    nor false = refl
+no5 t = rw (and-false (eqb t 0), and-false (eqb t 1), and-false (eqb t 2), and-false (eqb t 3), and-false (eqb t 4)) (λ h. h)
 
 pub opposite12 : (s t : ℕ) → (T (not (awaitsReset s)) → T (not (awaitsReset t)) → T (sameStage s t || sameStage t s)) → s ≡ 5 → t ≡ 12
 opposite12 s t k five = go (eqb t 12) refl

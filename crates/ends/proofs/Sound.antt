@@ -8,7 +8,7 @@ use lib.Dec.{T, eqb, eqb→eq, eqb-refl}
 use lib.ListN.{getD}
 use Rattle.circuit.proofs.Every.{left, right, both, isTrue}
 use Rattle.ends.specs.Calm.{still, Leave.atOnce, Leave.onceCalm}
-use Rattle.ends.proofs.Words.{words, fail, blo, mute, push, kept, bloIn, quiet, next, Run, Run.ran, run, Calm, Calm.stirred, Half, Half.half, runOf, restOf, bloFor, calmOf, view, sameHalf, same-half, joinAll, joined, allIn, member, at-member, has, family, absorbs, run-absorbs, run-push, endOf, reach, outgoing, run-ends}
+use Rattle.ends.proofs.Words.{and-false, words, fail, blo, mute, push, kept, bloIn, quiet, next, Run, Run.ran, run, Calm, Calm.stirred, Half, Half.half, runOf, restOf, bloFor, calmOf, view, sameHalf, same-half, joinAll, joined, allIn, member, at-member, has, family, absorbs, run-absorbs, run-push, endOf, reach, outgoing, run-ends}
 use Rattle.ends.proofs.Moves.{Move, Move.to, Table, among, sameMove, same-move, causeOf}
 use Rattle.ends.proofs.Rooms.{Room, Rooms, Need, Need.room, Need.impossible, over, stirs, comes, goes, glides, calmly, takesRest, takes, emptied, byWords, byHost, byCalm, byLull, follows, sound, sameRoom, place, listed, inRole, meets, meetsFrom, closedAt, closed}
 
@@ -152,12 +152,8 @@ module _ (l : Rooms) (c : Bool) (w : List ℕ) (j : Bool) (t : ℕ) (v : List �
       same : n ≡ s → At s (runOf c s w) (bloFor s w) (stirs o (calmOf c true w)) o → Inside l c (still o true) n w j t (v ++ o)
       same e h = rw e (arrived (still o true) s o (rw (stirs-calm c true w o) at h))
 
-      no-blo : (b : Bool) → (b && false) ≡ false
-      no-blo true = refl
-      no-blo false = refl
-
       again : n ≡ 12 → At 12 (runOf c 12 w) false (stirs o (calmOf c true w)) o → Inside l c (still o true) n w j t (v ++ o)
-      again e h = rw e (arrived (still o true) 12 o (rw (stirs-calm c true w o, ← (no-blo (bloIn w))) at h))
+      again e h = rw e (arrived (still o true) 12 o (rw (stirs-calm c true w o, ← (and-false (bloIn w))) at h))
 
   -- the word at the head of the queue
   module _ (s x n : ℕ) (o : List ℕ) where

@@ -301,6 +301,10 @@ kept-more (y ∷ w) x = rw (kept-more w x) (by (mute y) (mute x))
     by false true = refl
     by false false = sym (behind-push y (kept w) x)
 
+pub and-false : (a : Bool) → (a && false) ≡ false
+and-false true = refl
+and-false false = refl
+
 or-false : (a : Bool) → (a || false) ≡ a
 or-false true = refl
 or-false false = refl

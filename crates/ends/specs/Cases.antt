@@ -1,6 +1,6 @@
 -- Pairs of ends that are reached, each with the run that leads to it: the claims of `Ends` do not speak of nothing.
 -- Assumes nothing.
-use mathlib.Core.Bool.{Bool, true, false}
+use mathlib.Core.Bool.{true, false}
 use mathlib.Core.List.{List, [], _∷_, _++_}
 use Prim.Native.Nat.{ℕ}
 use Rattle.circuit.specs.declared.Failure.the-variants.{Ssb, Cfl}

@@ -13,28 +13,33 @@ use Rattle.circuit.specs.Records.{valid}
 use Rattle.circuit.specs.Groups.{controls}
 use Rattle.codes.specs.declared.Found.{Found}
 use Rattle.codes.specs.declared.Found.the-variants.{Is}
-use Rattle.ends.specs.Machine.{Happening, Happening.arrives, Happening.host, turn}
+use Rattle.ends.specs.Machine.{Happening, Happening.arrives, Happening.host, turn, Step, Step.first, Step.second, after}
 use Rattle.ends.specs.Ends.{End, Pair, endActs, restart}
 
--- what is on its way arrives, in some order, and nothing else happens; true: the oldest signal on its way to the first end is next
+-- at the first end, or at the second
+abbrev pub at : (isFirst : Bool) → Happening Found → Step Found
+at true h = first h
+at false h = second h
+
+-- signals arrive in some order: true, the oldest on its way to the first end is next
+abbrev pub arrivals : (order : List Bool) → List (Step Found)
+arrivals [] = []
+arrivals (isFirst ∷ order) = at isFirst arrives ∷ arrivals order
+
+-- timer 4 runs out at the end that awaits release-guard or, where neither does, at the one that awaits reset
+abbrev pub inState : ℕ → End → Bool
+inState s e = eqb (e .holds .state) s
+
+abbrev pub firstRepeats : Pair → Bool
+firstRepeats p = inState 5 (p .0) || cond (inState 5 (p .1)) false (inState 12 (p .0))
+
 module _ (a b : Bool) where
-  abbrev pub at : (first : Bool) → Happening Found → Pair → Pair
-  at true h p = turn (endActs a) h (p .0) (p .1)
-  at false h p = let q = turn (endActs b) h (p .1) (p .0) in (q .1, q .0)
-
+  -- what is on its way arrives, and nothing else happens
   unfoldable pub delivered : (order : List Bool) → Pair → Pair
-  delivered [] p = p
-  delivered (first ∷ order) p = delivered order (at first arrives p)
-
-  -- timer 4 runs out at the end that awaits release-guard or, where neither does, at the one that awaits reset
-  abbrev pub inState : ℕ → End → Bool
-  inState s e = eqb (e .holds .state) s
-
-  abbrev pub firstRepeats : Pair → Bool
-  firstRepeats p = inState 5 (p .0) || cond (inState 5 (p .1)) false (inState 12 (p .0))
+  delivered order p = after (endActs a) (endActs b) p (arrivals order)
 
   unfoldable pub repeated : Pair → Pair
-  repeated p = at (firstRepeats p) (host (Is (RunsOut Repeat))) p
+  repeated p = after (endActs a) (endActs b) p (at (firstRepeats p) (host (Is (RunsOut Repeat))) ∷ [])
 
 -- nothing is on its way
 pub record Quiet (p : Pair) : Type 0 where

@@ -151,7 +151,7 @@ module _ (own far cic : ℕ) where
               (unheard (ap (λ (b : Bool). cond b (heardIn F) []) a))
 
       -- the circuit comes back from its two octets
-      circuit : circuitIn own far cic (over (fieldsOctets F) (replicate 23 0)) ≡ cicIn m
+      circuit : circuitIn (over (fieldsOctets F) (replicate 23 0)) ≡ cicIn m
       circuit = numberBack 2 (F .circuit .0) low ∙ circuitRead own far n m z
         where
           low : F .circuit .0 < 256 ^ 2

@@ -21,7 +21,7 @@ use Rattle.group.specs.Table.{stepIn}
 use Rattle.group.proofs.Laws.{Carries, Same, byCases, others, keepsLength, isStep}
 use Rattle.ends.specs.Machine.{Both, acted}
 use Rattle.ends.specs.Ends.{End, end, inOrder, does}
-use Rattle.ends.proofs.Words.{heard, heard-more}
+use Rattle.ends.proofs.Words.{and-false, heard, heard-more}
 use Rattle.ends.proofs.Standing.{Holds, sameWords}
 use Rattle.exchanges.specs.Link.{Message, Exchange, Particulars, good, writesAll, steps, refused13, Has}
 use Rattle.exchanges.proofs.Seen.{signals, signals-more, sentBeside, sentHere}
@@ -82,13 +82,9 @@ notBarred own far cic table e q = eqb-false (stepIn own far table cic e .answer 
 pub barred : (own far cic i : ℕ) (table : List ℕ) (e : Found) → (i ≡ cic → stepIn own far table i e .answer .refusal ≡ 13 → ⊥) → refused13 own far cic table i e ≡ false
 barred own far cic i table e not13 = go (eqb i cic) refl
   where
-    nothing : (b : Bool) → (b && false) ≡ false
-    nothing true = refl
-    nothing false = refl
-
     go : (b : Bool) → eqb i cic ≡ b → (eqb (stepIn own far table i e .answer .refusal) 13 && b) ≡ false
     go true q = rw (ne-eqb (stepIn own far table i e .answer .refusal) 13 (not13 (eqb-true i cic q))) refl
-    go false q = nothing (eqb (stepIn own far table i e .answer .refusal) 13)
+    go false q = and-false (eqb (stepIn own far table i e .answer .refusal) 13)
 
 -- AN EVENT ON THE CIRCUIT, AND ONE BESIDE IT
 

@@ -14,7 +14,7 @@ use Rattle.circuit.specs.Records.{plain}
 use Rattle.circuit.specs.Groups.{badCode, badGroup, controls}
 use Rattle.circuit.specs.Refusals.{refuse, firstOf}
 use Rattle.circuit.proofs.Groups.{oneControls}
-use Rattle.circuit.proofs.Every.{left, right, isTrue}
+use Rattle.circuit.proofs.Every.{left, right, both, isTrue}
 use Rattle.codes.specs.declared.Named.the-variants.{Known}
 use Rattle.codes.specs.declared.Found.the-variants.{Is}
 use Rattle.codes.specs.Headings.{signalOf}
@@ -140,12 +140,8 @@ pub mirrorLink : {own far cic : ℕ} {x y : Exchange} → ExchangesCome own far 
 mirrorLink {own} {far} {cic} = mirror turns
   where
     turns : (x y : Exchange) → LinkStart own far cic x y → LinkStart far own cic y x
-    turns x y (idleAtBoth p q hx hy ix iy t) = idleAtBoth q p hy hx iy ix (bothWays (none (isAbout cic) (p .coming)) (none (isAbout cic) (q .coming)) t)
-      where
-        bothWays : (a b : Bool) → T (a && b) → T (b && a)
-        bothWays true true t = tt
-        bothWays true false t = absurd t
-        bothWays false b t = absurd t
+    turns x y (idleAtBoth p q hx hy ix iy t) = idleAtBoth q p hy hx iy ix
+        (both (none (isAbout cic) (q .coming)) (none (isAbout cic) (p .coming)) (right (none (isAbout cic) (p .coming)) _ t) (left (none (isAbout cic) (p .coming)) _ t))
     turns x y (firstRestarted p q hx hy ax ay) = secondRestarted q p hy hx ay ax
     turns x y (secondRestarted p q hx hy ax ay) = firstRestarted q p hy hx ay ax
 

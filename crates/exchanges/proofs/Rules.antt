@@ -39,10 +39,10 @@ module _ (own far cic : ℕ) (t u : List ℕ) (w v : List Message) where
 
     -- what it does, if it is accepted
     abbrev done : Effect (List ℕ) Message
-    done = steps own far cic t (circuitIn own far cic (read .buffer)) (signalIn own far cic (read .buffer)) plainly
+    done = steps own far cic t (circuitIn (read .buffer)) (signalIn (read .buffer)) plainly
 
     abbrev by13 : Bool
-    by13 = refused13 own far cic t (circuitIn own far cic (read .buffer)) (signalIn own far cic (read .buffer))
+    by13 = refused13 own far cic t (circuitIn (read .buffer)) (signalIn (read .buffer))
 
     abbrev Arrived : (accepted by13 : Bool) → Type 0
     Arrived a b = Come (cond (a && b) (exchange t (m ∷ w), exchange u v) (acted (cond a done (record { after = t; sends = [] })) w (exchange u v)))
@@ -51,10 +51,10 @@ module _ (own far cic : ℕ) (t u : List ℕ) (w v : List Message) where
     dropped refused q = subst (λ (l : List Message). ExchangesCome own far cic (exchange t w) (exchange u l)) (append-nil v)
         (subst (λ (a : Bool). Arrived a by13) (ne-eqb (read .answer) 0 refused) (atFirst q arrives))
 
-    pub taken : read .answer ≡ 0 → let i = circuitIn own far cic (read .buffer) in
-        (i ≡ cic → stepIn own far t i (signalIn own far cic (read .buffer)) .answer .refusal ≡ 13 → ⊥)
+    pub taken : read .answer ≡ 0 → let i = circuitIn (read .buffer) in
+        (i ≡ cic → stepIn own far t i (signalIn (read .buffer)) .answer .refusal ≡ 13 → ⊥)
         → At (m ∷ w) → Come (acted done w (exchange u v))
-    taken accepted not13 q = subst (Arrived true) (barred own far cic (circuitIn own far cic (read .buffer)) t (signalIn own far cic (read .buffer)) not13) (subst (λ (a : Bool). Arrived a by13) (eq-eqb (read .answer) 0 accepted) (atFirst q arrives))
+    taken accepted not13 q = subst (Arrived true) (barred own far cic (circuitIn (read .buffer)) t (signalIn (read .buffer)) not13) (subst (λ (a : Bool). Arrived a by13) (eq-eqb (read .answer) 0 accepted) (atFirst q arrives))
 
   -- an event that the host gives
   module _ (i kind code detail : ℕ) (p : Particulars) (well : T (good p)) (not13 : i ≡ cic → stepIn own far t i (eventOf kind code detail) .answer .refusal ≡ 13 → ⊥) where

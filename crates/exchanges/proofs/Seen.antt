@@ -23,7 +23,7 @@ use Rattle.inverse.proofs.ReadBack.{octetsRead}
 use Rattle.ends.specs.Machine.{none, without}
 use Rattle.ends.proofs.Words.{word, heard, heard-more}
 use Rattle.exchanges.specs.Link.{Message, isAbout, Particulars, good, saying, writes, writesAll}
-use Rattle.exchanges.proofs.Sent.{writerTakes, accepted, goesOutWhole, circuitWritten, heardIn, sameWord}
+use Rattle.exchanges.proofs.Sent.{isFalse, writerTakes, accepted, goesOutWhole, circuitWritten, heardIn, sameWord}
 
 -- own, far, count: the reader's group
 module _ (own far count cic : ℕ) where
@@ -45,10 +45,6 @@ module _ (own far count cic : ℕ) where
   pub silent : (q : List Message) → T (none (isAbout cic) q) → signals q ≡ []
   silent [] t = refl
   silent (m ∷ q) t = rw (unseen m (isFalse (isAbout cic m) (left (not (isAbout cic m)) _ t))) (silent q (right (not (isAbout cic m)) _ t))
-    where
-      isFalse : (b : Bool) → T (not b) → b ≡ false
-      isFalse true t = absurd t
-      isFalse false t = refl
 
   -- its messages are lost
   pub lostAll : (q : List Message) → signals (without (isAbout cic) q) ≡ []

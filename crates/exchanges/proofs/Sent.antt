@@ -1,17 +1,18 @@
 -- What an exchange sends: the writer takes every signal with good particulars, and the other end reads the octets as that signal on that circuit.
 -- Assumes nothing.
-use mathlib.Core.Path.{_≡_, refl, sym, ap, _∙_, subst}
-use mathlib.Core.Bool.{Bool, true, false, cond, not, _&&_, _||_}
+use mathlib.Core.Path.{_≡_, refl, sym, ap, _∙_}
+use mathlib.Core.Bool.{Bool, true, false, cond, not, _&&_}
 use mathlib.Core.List.{List, [], _∷_}
 use Prim.Native.Nat.{ℕ, zero, suc, _+_, _/_, _%_, _<_, _≤_}
 use native.Mathlib.Omega.{arith}
-use borrow.Author.Tests.{ltb-false, le-ltb, eq-eqb}
+use borrow.Author.Tests.{le-ltb, eq-eqb}
 use lib.Dec.{T, eqb, leb, ltb, leb→le, lit≤}
 use lib.ListN.{length, take}
 use Rattle.circuit.specs.declared.Failure.the-variants.{Sec, Cgc, Nnc, Adi, Cfl, Ssb, Unn, Los, Sst}
 use Rattle.circuit.specs.declared.Signal.{Signal}
 use Rattle.circuit.specs.declared.Signal.the-variants.{Iam, Acm, Anc, Ann, Cbk, Clf, Ran, Rlg, Blo, Bla, Ubl, Uba, Rsc, Fail}
 use Rattle.circuit.specs.Groups.{badGroup}
+use Rattle.circuit.proofs.Groups.{atMost4096}
 use Rattle.circuit.specs.Refusals.{firstOf}
 use Rattle.circuit.proofs.Refusals.{noneGiven}
 use Rattle.circuit.proofs.Every.{left, right}
@@ -27,7 +28,7 @@ use Rattle.writer.specs.Writing.{Said, tooLarge, badAddress, octetsOf, writeRul
 use Rattle.writer.proofs.Tests.{few}
 use Rattle.tup.specs.Entries.{writeFrom}
 use Rattle.inverse.specs.Said.{fieldsSaid, lengthOf}
-use Rattle.inverse.proofs.Groups.{turned, recordsFit}
+use Rattle.inverse.proofs.Groups.{turned}
 use Rattle.inverse.proofs.Refusals.{fromRefusal}
 use Rattle.inverse.proofs.ReadBack.{octetsRead, taking}
 use Rattle.inverse.proofs.Laws.{octetsLong}
@@ -35,19 +36,13 @@ use Rattle.inverse.proofs.Host.{fromFilled}
 use Rattle.ends.proofs.Words.{word, heard}
 use Rattle.exchanges.specs.Link.{Particulars, goodAddress, good, saying, chosen, goesOut}
 
-isFalse : (b : Bool) → T (not b) → b ≡ false
+pub isFalse : (b : Bool) → T (not b) → b ≡ false
 isFalse true t = absurd t
 isFalse false t = refl
 
-secondFalse : (a b : Bool) → (a || b) ≡ false → b ≡ false
-secondFalse true b e = absurd (subst T e tt)
-secondFalse false b e = e
-
 -- a group has at most 4096 circuits
 pub below : (own far count cic : ℕ) → badGroup own far count ≡ false → cic < count → cic < 4096
-below own far count cic group has =
-    let most : count ≤ 4096 = ltb-false 4096 count (secondFalse (eqb count 0) (ltb 4096 count) (recordsFit own far count group)) in
-    omega arith
+below own far count cic group has = let most : count ≤ 4096 = atMost4096 own far count group in omega arith
 
 -- good particulars, field by field
 module _ (p : Particulars) (g : T (good p)) where

@@ -105,6 +105,13 @@ pub data Gift : Type 0 where
   foreign : Message → Gift
   losses : (Message → Bool) → Gift
 
+-- what the 23 octets of a message that was read tell: its circuit, and its signal as an event
+abbrev pub circuitIn : (fields : List ℕ) → ℕ
+circuitIn fields = numberOf (getD fields 0 0 ∷ getD fields 1 0 ∷ [])
+
+abbrev pub signalIn : (fields : List ℕ) → Found
+signalIn fields = eventOf 1 (getD fields 2 0) (getD fields 3 0)
+
 -- own, far: the exchange's own code and the other's; watched: the circuit that is looked at
 module _ (own far watched : ℕ) where
   -- an event on a circuit of its table
@@ -121,12 +128,6 @@ module _ (own far watched : ℕ) where
   -- a message that arrives is read into 23 octets; one that is refused is dropped, any other is given to the circuit that it names
   abbrev pub reads : List ℕ → Message → Told
   reads table m = readInto own far (recordsIn (length table)) m (replicate 23 0)
-
-  abbrev pub circuitIn : (fields : List ℕ) → ℕ
-  circuitIn fields = numberOf (getD fields 0 0 ∷ getD fields 1 0 ∷ [])
-
-  abbrev pub signalIn : (fields : List ℕ) → Found
-  signalIn fields = eventOf 1 (getD fields 2 0) (getD fields 3 0)
 
   abbrev pub taking : List ℕ → Told → Effect (List ℕ) Message
   taking table r =

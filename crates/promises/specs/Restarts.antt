@@ -83,15 +83,15 @@ module _ (a b : Bool) (x y : End) (order : List Bool) where
   secondTakes = refl
 
 -- Timer 4 runs out, at the first end or at the second: at an end in 5, and where neither is in 5, at one in 12.
-pub whoRepeats : (a b : Bool) (x y : End)
-    → firstRepeats a b (x, y) ≡ (eqb (x .holds .state) 5 || cond (eqb (y .holds .state) 5) false (eqb (x .holds .state) 12))
-whoRepeats a b x y = refl
+pub whoRepeats : (x y : End)
+    → firstRepeats (x, y) ≡ (eqb (x .holds .state) 5 || cond (eqb (y .holds .state) 5) false (eqb (x .holds .state) 12))
+whoRepeats x y = refl
 
-pub firstRepeating : (a b : Bool) (r t : Record) → firstRepeats a b (end r [], end t []) ≡ true
+pub firstRepeating : (a b : Bool) (r t : Record) → firstRepeats (end r [], end t []) ≡ true
     → repeated a b (end r [], end t []) ≡ (end (stepFound a r (Is (RunsOut Repeat)) .after) [], end t (inOrder (stepFound a r (Is (RunsOut Repeat)) .sends)))
 firstRepeating = repeatsFirst
 
-pub secondRepeating : (a b : Bool) (r t : Record) → firstRepeats a b (end r [], end t []) ≡ false
+pub secondRepeating : (a b : Bool) (r t : Record) → firstRepeats (end r [], end t []) ≡ false
     → repeated a b (end r [], end t []) ≡ (end r (inOrder (stepFound b t (Is (RunsOut Repeat)) .sends)), end (stepFound b t (Is (RunsOut Repeat)) .after) [])
 secondRepeating = repeatsSecond
 
