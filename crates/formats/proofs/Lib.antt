@@ -1,3 +1,4 @@
 pub mod Signals
 pub mod Lengths
 pub mod Stores
+pub mod Format

@@ -1,3 +1,4 @@
+pub mod Format
 pub mod Octets
 pub mod Messages
 pub mod Way

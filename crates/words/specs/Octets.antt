@@ -1,8 +1,12 @@
 -- Numbers in octets, lowest first, and octets put at the start of a lent buffer.
 -- Assumes nothing.
 use mathlib.Core.List.{List, [], _∷_, _++_}
-use Prim.Native.Nat.{ℕ, zero, suc, _+_, _*_, _/_, _%_}
-use lib.ListN.{length, drop}
+use Prim.Native.Nat.{ℕ, zero, suc, _+_, _*_, _/_, _%_, _<_}
+use lib.ListN.{length, getD, drop}
+
+-- a list of octets
+abbrev pub Octets : List ℕ → Type 0
+Octets xs = (i : ℕ) → i < length xs → getD xs i 0 < 256
 
 -- a number in so many octets, lowest first
 abbrev pub lowFirst : ℕ → ℕ → List ℕ
