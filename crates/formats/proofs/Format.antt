@@ -15,7 +15,7 @@ use lib.ListN.{length, getD, replicate, replicate-append-replicate}
 use Rattle.circuit.proofs.Every.{left, right}
 use Rattle.words.specs.Octets.{lowFirst, numberOf}
 use Rattle.words.proofs.Octets.{numberBack, length-lowFirst}
-use Rattle.formats.specs.Format.{Name, dpc, opc, cic, heading, acm, category, indicators, count, Field, field, spare, Behind, Format, Content, each, many, bits, octetsFor, put, putEach, numberFrom, octetsFrom, index, same, get, above, getEach, contentOf, contentIn, most, Fits, has, once, saying, only, clearedBy}
+use Rattle.formats.specs.Format.{Name, DPC, OPC, CIC, HEADING, ACM, CATEGORY, INDICATORS, COUNT, Field, field, spare, Behind, Format, Content, each, many, bits, octetsFor, put, putEach, numberFrom, octetsFrom, index, same, get, above, getEach, contentOf, contentIn, most, Fits, has, once, saying, only, clearedBy}
 
 -- LENGTHS
 
@@ -26,25 +26,25 @@ lengthFits f c = length-lowFirst (octetsFor f (length (c .signals))) (numberFrom
 
 -- a name by its index
 named : ℕ → Name
-named zero = dpc
-named (suc zero) = opc
-named (suc (suc zero)) = cic
-named (suc (suc (suc zero))) = heading
-named (suc (suc (suc (suc zero)))) = acm
-named (suc (suc (suc (suc (suc zero))))) = category
-named (suc (suc (suc (suc (suc (suc zero)))))) = indicators
-named (suc (suc (suc (suc (suc (suc (suc k))))))) = count
+named zero = DPC
+named (suc zero) = OPC
+named (suc (suc zero)) = CIC
+named (suc (suc (suc zero))) = HEADING
+named (suc (suc (suc (suc zero)))) = ACM
+named (suc (suc (suc (suc (suc zero))))) = CATEGORY
+named (suc (suc (suc (suc (suc (suc zero)))))) = INDICATORS
+named (suc (suc (suc (suc (suc (suc (suc k))))))) = COUNT
 
 namedBack : (n : Name) → named (index n) ≡ n
 unfolding named
-namedBack dpc = refl
-namedBack opc = refl
-namedBack cic = refl
-namedBack heading = refl
-namedBack acm = refl
-namedBack category = refl
-namedBack indicators = refl
-namedBack count = refl
+namedBack DPC = refl
+namedBack OPC = refl
+namedBack CIC = refl
+namedBack HEADING = refl
+namedBack ACM = refl
+namedBack CATEGORY = refl
+namedBack INDICATORS = refl
+namedBack COUNT = refl
 
 isSame : (m n : Name) → same m n ≡ true → m ≡ n
 isSame m n e = sym (namedBack m) ∙ ap named (eqb-true (index m) (index n) e) ∙ namedBack n

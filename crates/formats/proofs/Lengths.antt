@@ -61,14 +61,13 @@ large h l =
       ne-eqb h 0x95 (λ e. omega arith),
     )
 
+-- every message has label and heading
+pub six-or-more : (h : ℕ) → 6 ≤ fixedLength h
+six-or-more h = omega arith
+
 -- a heading of no length is one that is not listed
 positive : (h : ℕ) → fixedLength h ≡ 0 → ⊥
-positive h = go (isIam h) (isAcm h)
-  where
-    go : (a b : Bool) → _≡_ {A = ℕ} (cond a 9 (cond b 7 6)) 0 → ⊥
-    go true b e = omega arith
-    go false true e = omega arith
-    go false false e = omega arith
+positive h e = let l = six-or-more h in omega arith
 
 pub no-length : (h : ℕ) → cond (listed h) (fixedLength h) 0 ≡ 0 → listed h ≡ false
 no-length h e = go (listed h) refl
@@ -89,14 +88,6 @@ the-length h n e p = e ∙ ap (λ (t : Bool). cond t (fixedLength h) 0) p
 
 pub acm-length : (h n : ℕ) → h ≡ 0x14 → n ≡ cond (listed h) (fixedLength h) 0 → n ≡ 7
 acm-length h n e is = is ∙ ap (λ (k : ℕ). cond (listed k) (fixedLength k) 0) e
-
-pub six-or-more : (h : ℕ) → 6 ≤ fixedLength h
-six-or-more h = go (isIam h) (isAcm h)
-  where
-    go : (a b : Bool) → 6 ≤ cond a 9 (cond b 7 6)
-    go true b = lit≤ tt
-    go false true = lit≤ tt
-    go false false = lit≤ tt
 
 -- a heading that is listed is an octet
 failure-octet : (f : Failure) → failureHeading f < 256

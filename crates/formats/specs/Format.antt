@@ -14,7 +14,7 @@ use Rattle.words.specs.Octets.{lowFirst, numberOf}
 
 -- the fields that there are
 pub data Name : Type 0 where
-  dpc opc cic heading acm category indicators count : Name
+  DPC OPC CIC HEADING ACM CATEGORY INDICATORS COUNT : Name
 
 -- a field with its width in bits, or so many spare bits, which say nothing
 pub data Field : Type 0 where
@@ -41,7 +41,7 @@ each addressSignals = 4
 
 abbrev pub many : Behind → (Name → ℕ) → ℕ
 many nothing says = 0
-many addressSignals says = says count
+many addressSignals says = says COUNT
 
 -- HOW LONG IT IS
 
@@ -76,14 +76,14 @@ octetsFrom f c = lowFirst (octetsFor f (length (c .signals))) (numberFrom f c)
 -- THE CONTENT THAT OCTETS HAVE
 
 abbrev pub index : Name → ℕ
-index dpc = 0
-index opc = 1
-index cic = 2
-index heading = 3
-index acm = 4
-index category = 5
-index indicators = 6
-index count = 7
+index DPC = 0
+index OPC = 1
+index CIC = 2
+index HEADING = 3
+index ACM = 4
+index CATEGORY = 5
+index INDICATORS = 6
+index COUNT = 7
 
 abbrev pub same : Name → Name → Bool
 same n m = eqb (index n) (index m)

@@ -10,7 +10,7 @@ use native.Mathlib.Omega.{arith}
 use lib.Dec.{eqb}
 use lib.ListN.{length, getD, take, drop, set, length-drop}
 use lib.Seq.{getD-drop, paste, paste-suc, length-take-le}
-use Rattle.formats.specs.Octets.{halves}
+use Rattle.formats.specs.Way.{halves}
 use Rattle.words.specs.Octets.{over}
 use Rattle.formats.specs.Messages.{half}
 use Rattle.reader.specs.Reading.{noCodes}

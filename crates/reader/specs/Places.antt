@@ -1,40 +1,34 @@
--- Where the fields of a message lie in its octets (Q.723; docs/RULES.md, "Messages on the link").
+-- What stands in a message's octets, by the formats of the label, the heading and the message.
 -- Assumes nothing.
-use mathlib.Core.List.{List, [], _∷_}
-use Prim.Native.Nat.{ℕ, _/_, _%_, _^_}
-use lib.ListN.{getD, take, drop}
-use Rattle.formats.specs.Octets.{halves}
+use mathlib.Core.List.{List}
+use Prim.Native.Nat.{ℕ}
+use Rattle.formats.specs.Format.{Name, DPC, OPC, CIC, HEADING, COUNT, get, Format, contentIn}
+use Rattle.formats.specs.Messages.{head, formatOf}
 use Rattle.words.specs.Octets.{numberOf}
 
--- the label, five octets: DPC + 2^14 · OPC + 2^28 · CIC
-abbrev pub labelIn : List ℕ → ℕ
-labelIn xs = numberOf (getD xs 0 0 ∷ getD xs 1 0 ∷ getD xs 2 0 ∷ getD xs 3 0 ∷ getD xs 4 0 ∷ [])
-
+-- label and heading, which every message has
 abbrev pub dpcIn : List ℕ → ℕ
-dpcIn xs = labelIn xs % 2 ^ 14
+dpcIn xs = get head (numberOf xs) DPC
 
 abbrev pub opcIn : List ℕ → ℕ
-opcIn xs = labelIn xs / 2 ^ 14 % 2 ^ 14
+opcIn xs = get head (numberOf xs) OPC
 
 abbrev pub cicIn : List ℕ → ℕ
-cicIn xs = labelIn xs / 2 ^ 28
+cicIn xs = get head (numberOf xs) CIC
 
 abbrev pub headingIn : List ℕ → ℕ
-headingIn xs = getD xs 5 0
+headingIn xs = get head (numberOf xs) HEADING
 
--- ACM's octet, and IAM's category: the top two bits are spare
-abbrev pub sixBitsIn : List ℕ → ℕ
-sixBitsIn xs = getD xs 6 0 % 64
+-- a field and the address signals by a format, 0 and none where it does not have them
+abbrev pub fieldBy : Format → Name → List ℕ → ℕ
+fieldBy f n xs = contentIn f xs .says n
 
--- IAM's two octets: 12 indicator bits below, of which the bit worth 2048 is spare, and the count in the top four
-abbrev pub wordIn : List ℕ → ℕ
-wordIn xs = numberOf (getD xs 7 0 ∷ getD xs 8 0 ∷ [])
+abbrev pub signalsBy : Format → List ℕ → List ℕ
+signalsBy f xs = contentIn f xs .signals
 
-abbrev pub indicatorsIn : List ℕ → ℕ
-indicatorsIn xs = wordIn xs % 2048
-
+-- by the format of the message's own heading
 abbrev pub countIn : List ℕ → ℕ
-countIn xs = wordIn xs / 4096
+countIn xs = fieldBy (formatOf (headingIn xs)) COUNT xs
 
 abbrev pub addressIn : List ℕ → List ℕ
-addressIn xs = take (countIn xs) (halves (drop 9 xs))
+addressIn xs = signalsBy (formatOf (headingIn xs)) xs

@@ -2,7 +2,7 @@
 -- Assumes nothing.
 use mathlib.Core.Bool.{Bool, cond, not, _&&_, _||_}
 use mathlib.Core.List.{List, [], _∷_}
-use Prim.Native.Nat.{ℕ, zero, suc, _+_}
+use Prim.Native.Nat.{ℕ, zero, suc}
 use lib.Dec.{eqb, leb, ltb}
 use lib.ListN.{length, replicate}
 use Rattle.circuit.specs.Groups.{badGroup}
@@ -13,27 +13,37 @@ use Rattle.reader.specs.declared.Reading.{Reading}
 use Rattle.circuit.specs.Refusals.{refuse, Rule, firstOf}
 use Rattle.formats.specs.Octets.{badCodes}
 use Rattle.words.specs.Octets.{over}
-use Rattle.formats.specs.Messages.{listed, iamHeading, isIam, isAcm, fixedLength, half}
-use Rattle.reader.specs.Places.{dpcIn, opcIn, cicIn, headingIn, sixBitsIn, indicatorsIn, countIn, addressIn}
+use Rattle.formats.specs.Format.{Format, octetsFor, ACM, CATEGORY, INDICATORS, COUNT}
+use Rattle.formats.specs.Messages.{formatOf, signalsBehind, listed}
+use Rattle.reader.specs.Places.{dpcIn, opcIn, cicIn, headingIn, fieldBy, signalsBy}
 
 -- DPC is not the own code or OPC not the far one
 abbrev pub elsewhere : ℕ → ℕ → List ℕ → Bool
 elsewhere own far xs = not (eqb (dpcIn xs) own) || not (eqb (opcIn xs) far)
 
--- a length that does not fit the heading: an IAM under 9 octets, an ACM not of 7, any other not of 6
-abbrev pub unfit : ℕ → ℕ → Bool
-unfit heading len = cond (isIam heading) (ltb len 9) (not (eqb len (fixedLength heading)))
+-- a length that no message of the format has, whatever its count: under the octets of its fields where address signals lie behind them, else any other
+abbrev pub unfitBy : Format → (length : ℕ) → Bool
+unfitBy f len = cond (signalsBehind (f .behind)) (ltb len (octetsFor f 0)) (not (eqb len (octetsFor f 0)))
 
--- the refusals of a message whose label is in order, by its heading
-abbrev pub bodyRules : ℕ → ℕ → List ℕ → List Rule
-bodyRules records heading xs =
-    refuse 9 (not (listed heading))
-    ∷ refuse 7 (unfit heading (length xs))
-    ∷ refuse 10 (isIam heading && eqb (countIn xs) 0)
-    ∷ refuse 7 (isIam heading && not (eqb (length xs) (9 + half (countIn xs))))
-    ∷ refuse 10 (isIam heading && badCodes (addressIn xs))
+-- a length that does not fit the heading: an IAM under 9 octets, an ACM not of 7, any other not of 6
+abbrev pub unfit : (heading length : ℕ) → Bool
+unfit heading len = unfitBy (formatOf heading) len
+
+-- the refusals of a message by its format, label and heading being in order
+abbrev pub formatRules : (records : ℕ) → Format → List ℕ → List Rule
+formatRules records f xs =
+    refuse 7 (unfitBy f (length xs))
+    ∷ refuse 10 (signalsBehind (f .behind) && eqb (fieldBy f COUNT xs) 0)
+    ∷ refuse 7 (signalsBehind (f .behind) && not (eqb (length xs) (octetsFor f (fieldBy f COUNT xs))))
+    ∷ refuse 10 (signalsBehind (f .behind) && badCodes (signalsBy f xs))
     ∷ refuse 2 (leb records (cicIn xs))
     ∷ []
+
+-- of a message whose label is in order, by its heading
+abbrev pub bodyRules : (records heading : ℕ) → List ℕ → List Rule
+bodyRules records heading xs =
+    refuse 9 (not (listed heading))
+    ∷ formatRules records (formatOf heading) xs
 
 -- the reader's refusals, in order
 abbrev pub readRules : ℕ → ℕ → ℕ → List ℕ → List Rule
@@ -51,19 +61,21 @@ noCodes = replicate 15 0
 abbrev pub refused : ℕ → Fields
 refused n = record { refusal = n; circuit = record { 0 = 0 }; heading = 0; acm = 0; category = 0; indicators = 0; count = 0; address = noCodes }
 
--- what a message other than an IAM says
-abbrev pub plainFields : ℕ → ℕ → ℕ → Fields
-plainFields circuit heading acm = record { refusal = 0; circuit = record { 0 = circuit }; heading = heading; acm = acm; category = 0; indicators = 0; count = 0; address = noCodes }
+-- what the octets say by a format; a field that it does not have is 0, and so is a place of the address that is not used
+abbrev pub fieldsBy : Format → (heading : ℕ) → List ℕ → Fields
+fieldsBy f heading xs = record {
+  refusal = 0;
+  circuit = record { 0 = cicIn xs };
+  heading = heading;
+  acm = fieldBy f ACM xs;
+  category = fieldBy f CATEGORY xs;
+  indicators = fieldBy f INDICATORS xs;
+  count = fieldBy f COUNT xs;
+  address = over (signalsBy f xs) noCodes;
+}
 
-abbrev pub iamFields : ℕ → ℕ → ℕ → List ℕ → Fields
-iamFields circuit category indicators address = record { refusal = 0; circuit = record { 0 = circuit }; heading = iamHeading; acm = 0; category = category; indicators = indicators; count = length address; address = over address noCodes }
-
--- what the octets say; a field that the heading does not have is 0, and so is a place of the address that is not used
-abbrev pub fieldsIn : ℕ → List ℕ → Fields
-fieldsIn heading xs =
-    cond (isIam heading)
-    (iamFields (cicIn xs) (sixBitsIn xs) (indicatorsIn xs) (addressIn xs))
-    (plainFields (cicIn xs) heading (cond (isAcm heading) (sixBitsIn xs) 0))
+abbrev pub fieldsIn : (heading : ℕ) → List ℕ → Fields
+fieldsIn heading xs = fieldsBy (formatOf heading) heading xs
 
 -- the fields where nothing is refused
 abbrev pub unless : ℕ → Fields → Fields

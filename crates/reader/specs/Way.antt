@@ -1,12 +1,15 @@
--- The way the reader's program goes: what is left to do once the label is found in order. Only contracts of private functions cite it, and no
--- promise leans on it.
+-- The way the reader's program goes: what is left to do once the label is found in order, and what a message without address signals says. Only
+-- contracts of private functions cite it, and no promise leans on it.
 -- Assumes nothing.
 use mathlib.Core.List.{List}
 use Prim.Native.Nat.{ℕ}
 use Rattle.reader.specs.declared.Fields.{Fields}
 use Rattle.circuit.specs.Refusals.{firstOf}
-use Rattle.reader.specs.Reading.{bodyRules, fieldsIn, unless}
+use Rattle.reader.specs.Reading.{bodyRules, noCodes, fieldsIn, unless}
 
 -- what a message with the heading is read as, its label being in order
 unfoldable pub bodyOf : ℕ → ℕ → List ℕ → Fields
 bodyOf records heading xs = unless (firstOf (bodyRules records heading xs)) (fieldsIn heading xs)
+
+abbrev pub plainFields : (circuit heading acm : ℕ) → Fields
+plainFields circuit heading acm = record { refusal = 0; circuit = record { 0 = circuit }; heading = heading; acm = acm; category = 0; indicators = 0; count = 0; address = noCodes }

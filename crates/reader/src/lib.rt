@@ -6,13 +6,13 @@ ghost use mathlib.Core.Path.{_≡_};
 ghost use mathlib.Core.Bool.{cond, not, _||_};
 ghost use lib.Dec.{eqb};
 ghost use Prim.Native.Nat.{_+_, _/_, _%_, _≤_, _^_};
-ghost use lib.ListN.{length, drop, take};
-ghost use Rattle.formats.specs.Octets.{halves};
+ghost use lib.ListN.{length, getD, drop, take};
 ghost use Rattle.words.specs.Octets.{over};
 ghost use Rattle.formats.specs.Messages.{half, iamHeading};
-ghost use Rattle.reader.specs.Places.{cicIn, headingIn};
-ghost use Rattle.reader.specs.Reading.{noCodes, refused, plainFields, fieldsOf, reading};
-ghost use Rattle.reader.specs.Way.{bodyOf};
+ghost use Rattle.formats.specs.Way.{halves};
+ghost use Rattle.reader.specs.Places.{cicIn};
+ghost use Rattle.reader.specs.Reading.{noCodes, refused, fieldsOf, reading};
+ghost use Rattle.reader.specs.Way.{bodyOf, plainFields};
 
 // The two octets of an IAM's indicators and count have a spare bit, and ACM's octet and IAM's category have two: what they say lies below.
 const SPARE_INDICATOR: u64 = 2048;
@@ -142,7 +142,7 @@ fn read_iam(records: usize, circuit: Cic, octets: &[u8]) -> Fields
 // A message whose label is in order.
 fn read_body(records: usize, circuit: Cic, octets: &[u8]) -> Fields
     requires { ⌜ (6 ≤ length (now octets)) × (circuit .0 ≡ cicIn (now octets)) ⌝ }
-    ensures { λ r. ⌜ r ≡ bodyOf records (headingIn (now (octets .entry))) (now (octets .entry)) ⌝ }
+    ensures { λ r. ⌜ r ≡ bodyOf records (getD (now (octets .entry)) 5 0) (now (octets .entry)) ⌝ }
 {
     let heading = octets[5];
     if heading == formats::IAM as u8 {

@@ -4,7 +4,7 @@ use native.Mathlib.Omega.{arith}
 use borrow.Author.Needs.{needs}
 use Rattle.reader.proofs.Signals.{reads, read-all}
 use Rattle.reader.specs.Reading.{noCodes}
-use Rattle.formats.specs.Octets.{halves}
+use Rattle.formats.specs.Way.{halves}
 use lib.Seq.{paste}
 use lib.ListN.{length, drop, length-set}
 use Prim.Native.Nat.{_≤_, _-_}

@@ -32,13 +32,13 @@ refused-requires : tie.Need-refused-requires
 refused-requires c κs = search needs
 
 returns-2 : tie.Need-returns-2
-returns-2 c = c .refused .ensures ∙ sym (looked-none _ _ _ (c .before .before .before .if1 .left) _ (c .before .before .fixed-length .ensures) (c .before .if2 .taken))
+returns-2 c = c .refused .ensures ∙ sym (looked-none _ _ _ (λ i. c .before .before .before .before .shared-slice-known2 .given i .fits) (c .before .before .before .if1 .left) _ (c .before .before .fixed-length .ensures) (c .before .if2 .taken))
 
 refused-requires-2 : tie.Need-refused-requires-2
 refused-requires-2 c κs = search needs
 
 returns-3 : tie.Need-returns-3
-returns-3 c = c .refused2 .ensures ∙ sym (looked-long _ _ _ (c .before .before .before .before .if1 .left) _ (c .before .before .before .fixed-length .ensures) (c .before .before .if2 .left) (c .before .if3 .taken))
+returns-3 c = c .refused2 .ensures ∙ sym (looked-long _ _ _ (λ i. c .before .before .before .before .before .shared-slice-known2 .given i .fits) (c .before .before .before .before .if1 .left) _ (c .before .before .before .fixed-length .ensures) (c .before .before .if2 .left) (c .before .if3 .taken))
 
 cast-if4 : tie.Need-cast-if4
 cast-if4 c = search needs
@@ -47,7 +47,7 @@ refused-requires-3 : tie.Need-refused-requires-3
 refused-requires-3 c κs = search needs
 
 returns-4 : tie.Need-returns-4
-returns-4 c = c .refused3 .ensures ∙ sym (looked-beyond _ _ _ (c .before .before .before .before .before .before .if1 .left) _ (c .before .before .before .before .before .fixed-length .ensures) (c .before .before .before .before .if2 .left) (c .before .before .before .if3 .left) _ (c .before .before .before .before .before .before .before .before .before .pre .1) (c .before .if4 .taken))
+returns-4 c = c .refused3 .ensures ∙ sym (looked-beyond _ _ _ (λ i. c .before .before .before .before .before .before .before .shared-slice-known2 .given i .fits) (c .before .before .before .before .before .before .if1 .left) _ (c .before .before .before .before .before .fixed-length .ensures) (c .before .before .before .before .if2 .left) (c .before .before .before .if3 .left) _ (c .before .before .before .before .before .before .before .before .before .pre .1) (c .before .if4 .taken))
 
 cast-if5 : tie.Need-cast-if5
 cast-if5 c = search needs
@@ -59,13 +59,13 @@ plain-fields-requires : tie.Need-plain-fields-requires
 plain-fields-requires c κs = search needs
 
 returns-5 : tie.Need-returns-5
-returns-5 c = c .plain-fields .ensures ∙ sym (looked-acm _ _ _ (c .before .before .before .before .before .before .before .before .if1 .left) _ (c .before .before .before .before .before .before .before .fixed-length .ensures) (c .before .before .before .before .before .before .if2 .left) (c .before .before .before .before .before .if3 .left) _ (c .before .before .before .before .before .before .before .before .before .before .before .pre .1) (c .before .before .before .if4 .left) (c .before .before .if5 .taken))
+returns-5 c = c .plain-fields .ensures ∙ sym (looked-acm _ _ _ (λ i. c .before .before .before .before .before .before .before .before .before .shared-slice-known2 .given i .fits) (c .before .before .before .before .before .before .before .before .if1 .left) _ (c .before .before .before .before .before .before .before .fixed-length .ensures) (c .before .before .before .before .before .before .if2 .left) (c .before .before .before .before .before .if3 .left) _ (c .before .before .before .before .before .before .before .before .before .before .before .pre .1) (c .before .before .before .if4 .left) (c .before .before .if5 .taken))
 
 plain-fields-requires-2 : tie.Need-plain-fields-requires-2
 plain-fields-requires-2 c κs = search needs
 
 returns-6 : tie.Need-returns-6
-returns-6 c = c .plain-fields2 .ensures ∙ sym (looked-plain _ _ _ (c .before .before .before .before .before .before .before .if1 .left) _ (c .before .before .before .before .before .before .fixed-length .ensures) (c .before .before .before .before .before .if2 .left) (c .before .before .before .before .if3 .left) _ (c .before .before .before .before .before .before .before .before .before .before .pre .1) (c .before .before .if4 .left) (c .before .if5 .left))
+returns-6 c = c .plain-fields2 .ensures ∙ sym (looked-plain _ _ _ (λ i. c .before .before .before .before .before .before .before .before .shared-slice-known2 .given i .fits) (c .before .before .before .before .before .before .before .if1 .left) _ (c .before .before .before .before .before .before .fixed-length .ensures) (c .before .before .before .before .before .if2 .left) (c .before .before .before .before .if3 .left) _ (c .before .before .before .before .before .before .before .before .before .before .pre .1) (c .before .before .if4 .left) (c .before .if5 .left))
 
 pub read-body-spec : {M : Type 1} → statement M
 read-body-spec =

@@ -2,7 +2,7 @@
 -- Assumes nothing.
 use native.Mathlib.Omega.{arith}
 use Prim.Native.Nat.{ℕ, _/_}
-use Rattle.reader.proofs.Bodies.{bad-group, short, stray, ours, strays}
+use Rattle.reader.proofs.Bodies.{bad-group, short, stray, ours-read, strays, the-circuit}
 use mathlib.Core.Path.{sym, _∙_, ap}
 use borrow.Author.Needs.{needs}
 use Rattle.reader.proofs.read_fields.Statement.{statement}
@@ -48,16 +48,16 @@ refused-requires-3 : tie.Need-refused-requires-3
 refused-requires-3 c κs = search needs
 
 returns-3 : tie.Need-returns-3
-returns-3 c = c .refused3 .ensures ∙ sym (stray _ _ _ (c .before .before .before .before .before .before .before .before .before .before .before .before .before .args .octets .now) (sym (c .before .before .before .before .before .before .before .before .before .before .before .bad-group .ensures) ∙ c .before .before .before .before .before .before .before .before .before .before .if1 .left) (c .before .before .before .before .before .before .before .before .before .if2 .left) (strays _ _ _ (c .before .before .before .before .before .before .before .before .before .before .before .before .before .args .octets .now) (c .before .before .before .number .ensures) (sym (c .before .before .elsewhere .ensures) ∙ c .before .if3 .taken)))
+returns-3 c = c .refused3 .ensures ∙ sym (stray _ _ _ (c .before .before .before .before .before .before .before .before .before .before .before .before .before .args .octets .now) (sym (c .before .before .before .before .before .before .before .before .before .before .before .bad-group .ensures) ∙ c .before .before .before .before .before .before .before .before .before .before .if1 .left) (c .before .before .before .before .before .before .before .before .before .if2 .left) (strays _ (c .before .before .before .before .before .before .before .before .before .before .before .before .before .args .octets .now) (λ i. c .before .before .before .before .shared-slice-known6 .given i .fits) (c .before .before .before .number .ensures) _ _ (sym (c .before .before .elsewhere .ensures) ∙ c .before .if3 .taken)))
 
 cast-t21 : tie.Need-cast-t21
 cast-t21 c = let k = c .before .before .before .shared-slice-known6 .given in omega (arith, c .before .before .number .ensures, k 0, k 1, k 2, k 3, k 4)
 
 read-body-requires : tie.Need-read-body-requires
-read-body-requires c κs = (search needs, ap (λ (l : ℕ). l / 268435456) (c .before .before .number .ensures))
+read-body-requires c κs = (search needs, the-circuit _ (c .before .before .before .before .before .before .before .before .before .before .before .before .args .octets .now) (λ i. c .before .before .before .shared-slice-known6 .given i .fits) (c .before .before .number .ensures))
 
 returns-4 : tie.Need-returns-4
-returns-4 c = c .read-body .ensures ∙ sym (ours _ _ _ (c .before .before .before .before .before .before .before .before .before .before .before .before .before .args .octets .now) (sym (c .before .before .before .before .before .before .before .before .before .before .before .bad-group .ensures) ∙ c .before .before .before .before .before .before .before .before .before .before .if1 .left) (c .before .before .before .before .before .before .before .before .before .if2 .left) (strays _ _ _ (c .before .before .before .before .before .before .before .before .before .before .before .before .before .args .octets .now) (c .before .before .before .number .ensures) (sym (c .before .before .elsewhere .ensures) ∙ c .before .if3 .left)))
+returns-4 c = c .read-body .ensures ∙ sym (ours-read _ _ _ (c .before .before .before .before .before .before .before .before .before .before .before .before .before .args .octets .now) (sym (c .before .before .before .before .before .before .before .before .before .before .before .bad-group .ensures) ∙ c .before .before .before .before .before .before .before .before .before .before .if1 .left) (c .before .before .before .before .before .before .before .before .before .if2 .left) (strays _ (c .before .before .before .before .before .before .before .before .before .before .before .before .before .args .octets .now) (λ i. c .before .before .before .before .shared-slice-known6 .given i .fits) (c .before .before .before .number .ensures) _ _ (sym (c .before .before .elsewhere .ensures) ∙ c .before .if3 .left)) (λ i. c .before .before .before .before .shared-slice-known6 .given i .fits))
 
 pub read-fields-spec : {M : Type 1} → statement M
 read-fields-spec =

@@ -26,7 +26,7 @@ refused-requires-2 : tie.Need-refused-requires-2
 refused-requires-2 c κs = search needs
 
 returns-2 : tie.Need-returns-2
-returns-2 c = c .refused2 .ensures ∙ sym (empty _ _ _ (c .before .before .number .ensures) (c .before .before .before .before .before .if1 .left) (c .before .if2 .taken))
+returns-2 c = c .refused2 .ensures ∙ sym (empty _ _ (λ i. c .before .before .before .shared-slice-known3 .given i .fits) _ (c .before .before .number .ensures) (c .before .before .before .before .before .if1 .left) (c .before .if2 .taken))
 
 add-if3 : tie.Need-add-if3
 add-if3 c = search needs
@@ -38,16 +38,16 @@ refused-requires-3 : tie.Need-refused-requires-3
 refused-requires-3 c κs = search needs
 
 returns-3 : tie.Need-returns-3
-returns-3 c = c .refused3 .ensures ∙ sym (too-long _ _ _ (c .before .before .before .number .ensures) (c .before .before .before .before .before .before .if1 .left) (c .before .before .if2 .left) (c .before .if3 .taken))
+returns-3 c = c .refused3 .ensures ∙ sym (too-long _ _ (λ i. c .before .before .before .before .shared-slice-known3 .given i .fits) _ (c .before .before .before .number .ensures) (c .before .before .before .before .before .before .if1 .left) (c .before .before .if2 .left) (c .before .if3 .taken))
 
 codes-in-requires : tie.Need-codes-in-requires
 codes-in-requires c κs = let w = c .before .before in omega (arith, w .number .ensures, w .before .shared-slice-known3 .given 7, w .before .shared-slice-known3 .given 8, c .if3 .left)
 
 array-share-prefix-codes : tie.Need-array-share-prefix-codes
-array-share-prefix-codes c = room (c .before .before .before .before .before .before .before .before .args .records) (c .before .before .before .before .before .before .before .before .args .octets .now) _ (c .before .before .before .number .ensures) (c .before .before .before .before .before .before .if1 .left) (c .before .before .if2 .left) (c .before .if3 .left) _ (c .codes-in .ensures)
+array-share-prefix-codes c = room (c .before .before .before .before .before .before .before .before .args .records) (c .before .before .before .before .before .before .before .before .args .octets .now) (λ i. c .before .before .before .before .shared-slice-known3 .given i .fits) _ (c .before .before .before .number .ensures) (c .before .before .before .before .before .before .if1 .left) (c .before .before .if2 .left) (c .before .if3 .left) _ (c .codes-in .ensures)
 
 slice-aggregate-bad-codes : tie.Need-slice-aggregate-bad-codes
-slice-aggregate-bad-codes c = prefix (c .before .before .before .before .before .before .before .before .before .args .records) (c .before .before .before .before .before .before .before .before .before .args .octets .now) _ (c .before .before .before .before .number .ensures) (c .before .before .before .before .before .before .before .if1 .left) (c .before .before .before .if2 .left) (c .before .before .if3 .left) _ (c .before .codes-in .ensures)
+slice-aggregate-bad-codes c = prefix (c .before .before .before .before .before .before .before .before .before .args .records) (c .before .before .before .before .before .before .before .before .before .args .octets .now) (λ i. c .before .before .before .before .before .shared-slice-known3 .given i .fits) _ (c .before .before .before .before .number .ensures) (c .before .before .before .before .before .before .before .if1 .left) (c .before .before .before .if2 .left) (c .before .before .if3 .left) _ (c .before .codes-in .ensures)
 
 bad-codes-requires : tie.Need-bad-codes-requires
 bad-codes-requires c κs = search needs
@@ -56,7 +56,7 @@ refused-requires-4 : tie.Need-refused-requires-4
 refused-requires-4 c κs = search needs
 
 returns-4 : tie.Need-returns-4
-returns-4 c = let d = c .before .before .before .before in c .refused4 .ensures ∙ sym (spoilt _ (d .before .before .before .before .before .before .before .before .args .octets .now) _ (d .before .before .before .number .ensures) (d .before .before .before .before .before .before .if1 .left) (d .before .before .if2 .left) (d .before .if3 .left) _ (d .codes-in .ensures) (sym (c .before .before .bad-codes .ensures) ∙ c .before .if4 .taken))
+returns-4 c = let d = c .before .before .before .before in c .refused4 .ensures ∙ sym (spoilt _ (d .before .before .before .before .before .before .before .before .args .octets .now) (λ i. d .before .before .before .before .shared-slice-known3 .given i .fits) _ (d .before .before .before .number .ensures) (d .before .before .before .before .before .before .if1 .left) (d .before .before .if2 .left) (d .before .if3 .left) _ (d .codes-in .ensures) (sym (c .before .before .bad-codes .ensures) ∙ c .before .if4 .taken))
 
 cast-if5 : tie.Need-cast-if5
 cast-if5 c = search needs
@@ -65,7 +65,7 @@ refused-requires-5 : tie.Need-refused-requires-5
 refused-requires-5 c κs = search needs
 
 returns-5 : tie.Need-returns-5
-returns-5 c = let d = c .before .before .before .before .before .before in c .refused5 .ensures ∙ sym (no-circuit _ (d .before .before .before .before .before .before .before .before .args .octets .now) _ (d .before .before .before .number .ensures) (d .before .before .before .before .before .before .if1 .left) (d .before .before .if2 .left) (d .before .if3 .left) _ (d .codes-in .ensures) (sym (c .before .before .before .before .bad-codes .ensures) ∙ c .before .before .before .if4 .left) (rw (d .before .before .before .before .before .before .before .before .pre) at (c .before .if5 .taken)))
+returns-5 c = let d = c .before .before .before .before .before .before in c .refused5 .ensures ∙ sym (no-circuit _ (d .before .before .before .before .before .before .before .before .args .octets .now) (λ i. d .before .before .before .before .shared-slice-known3 .given i .fits) _ (d .before .before .before .number .ensures) (d .before .before .before .before .before .before .if1 .left) (d .before .before .if2 .left) (d .before .if3 .left) _ (d .codes-in .ensures) (sym (c .before .before .before .before .bad-codes .ensures) ∙ c .before .before .before .if4 .left) (rw (d .before .before .before .before .before .before .before .before .pre) at (c .before .if5 .taken)))
 
 cast-t12 : tie.Need-cast-t12
 cast-t12 c = search needs
@@ -80,7 +80,7 @@ cast-t24 : tie.Need-cast-t24
 cast-t24 c = let w = c .before .before .before .before .before .before .before .before .before in omega (arith, w .number .ensures, w .before .shared-slice-known3 .given 7, w .before .shared-slice-known3 .given 8)
 
 returns-6 : tie.Need-returns-6
-returns-6 c = let d = c .before .before .before .before .before .before in sym (read-whole (d .before .before .before .before .before .before .before .before .args .records) (d .before .before .before .before .before .before .before .before .args .octets .now) _ (d .before .before .before .number .ensures) (d .before .before .before .before .before .before .if1 .left) (d .before .before .if2 .left) (d .before .if3 .left) _ (d .codes-in .ensures) (sym (c .before .before .before .before .bad-codes .ensures) ∙ c .before .before .before .if4 .left) (d .before .before .before .before .before .before .before .before .args .circuit) (d .before .before .before .before .before .before .before .before .pre) (c .before .if5 .left))
+returns-6 c = let d = c .before .before .before .before .before .before in sym (read-whole (d .before .before .before .before .before .before .before .before .args .records) (d .before .before .before .before .before .before .before .before .args .octets .now) (λ i. d .before .before .before .before .shared-slice-known3 .given i .fits) _ (d .before .before .before .number .ensures) (d .before .before .before .before .before .before .if1 .left) (d .before .before .if2 .left) (d .before .if3 .left) _ (d .codes-in .ensures) (sym (c .before .before .before .before .bad-codes .ensures) ∙ c .before .before .before .if4 .left) (d .before .before .before .before .before .before .before .before .args .circuit) (d .before .before .before .before .before .before .before .before .pre) (c .before .if5 .left))
 
 pub read-iam-spec : {M : Type 1} → statement M
 read-iam-spec =
