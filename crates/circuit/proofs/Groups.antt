@@ -1,11 +1,11 @@
 -- Laws of groups: what a group that is taken has, and that exactly one of two ends controls a circuit.
 -- Assumes nothing.
-use mathlib.Core.Path.{_≡_, refl, subst}
+use mathlib.Core.Path.{_≡_, refl, sym, subst}
 use mathlib.Core.Bool.{Bool, true, false, not, _||_}
 use Prim.Native.Nat.{ℕ, zero, suc, _%_, _<_, _≤_}
 use native.Mathlib.Omega.{arith}
 use lib.Dec.{T, eqb, ltb}
-use borrow.Author.Tests.{ltb-true, ltb-false, lt-ltb, le-ltb}
+use borrow.Author.Tests.{ltb-true, ltb-false, lt-ltb, le-ltb, eqb-false, ne-eqb}
 use Rattle.circuit.specs.Groups.{badCode, badGroup, controls}
 
 -- four tests, none of which holds
@@ -22,6 +22,31 @@ atMost4096 own far records e = go (eqb records 0) (none (badCode own) (badCode f
     go : (b : Bool) → (b || ltb 4096 records) ≡ false → records ≤ 4096
     go true d = absurd (subst T d tt)
     go false d = ltb-false 4096 records d
+
+-- a group that is taken has two codes in range
+pub inRange : (own far records : ℕ) → badGroup own far records ≡ false → (own < 16384) × (far < 16384)
+inRange own far records e =
+    let n = none (badCode own) (badCode far) (eqb own far) (eqb records 0 || ltb 4096 records) e in
+    let a : own ≤ 16383 = ltb-false _ _ (n .0) in
+    let b : far ≤ 16383 = ltb-false _ _ (n .1) in
+    (omega arith, omega arith)
+
+-- and is one from the other end too, with any number of records that a group may have
+pub turned : (own far records theirs : ℕ) → badGroup own far records ≡ false → (eqb theirs 0 || ltb 4096 theirs) ≡ false → badGroup far own theirs ≡ false
+turned own far records theirs e m = all (badCode far) (badCode own) (eqb far own) (eqb theirs 0 || ltb 4096 theirs) (n .1) (n .0) other m
+  where
+    n : (badCode own ≡ false) × (badCode far ≡ false) × (eqb own far ≡ false) × ((eqb records 0 || ltb 4096 records) ≡ false)
+    n = none (badCode own) (badCode far) (eqb own far) (eqb records 0 || ltb 4096 records) e
+
+    other : eqb far own ≡ false
+    other = ne-eqb far own (λ p. eqb-false own far (n .2) (sym p))
+
+    all : (a b c d : Bool) → a ≡ false → b ≡ false → c ≡ false → d ≡ false → (a || b || c || d) ≡ false
+    all a b c d p q r s = rw (p, q, r, s)
+
+-- its number of records is one that a group may have
+pub recordsFit : (own far records : ℕ) → badGroup own far records ≡ false → (eqb records 0 || ltb 4096 records) ≡ false
+recordsFit own far records e = none (badCode own) (badCode far) (eqb own far) (eqb records 0 || ltb 4096 records) e .3
 
 parity : (m : ℕ) → m < 2 → eqb m 1 ≡ not (eqb m 0)
 parity zero h = refl

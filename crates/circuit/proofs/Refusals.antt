@@ -1,6 +1,6 @@
 -- Laws of a list of refusals: when a number is given, when none is, and what a rule at the end adds.
 -- Assumes nothing.
-use mathlib.Core.Path.{_≡_, refl, sym, subst}
+use mathlib.Core.Path.{_≡_, refl, sym, _∙_, subst}
 use mathlib.Core.Bool.{Bool, true, false}
 use mathlib.Core.List.{List, [], _∷_, _++_}
 use mathlib.Core.Logic.{_↔_, inl, inr, ⊎-elim}
@@ -44,3 +44,11 @@ pub afterThem : (rules more : List Rule) → Clear rules → firstOf (rules ++ m
 afterThem [] more c = refl
 afterThem (refuse k true ∷ rules) more c = absurd (subst T (c .0) tt)
 afterThem (refuse k false ∷ rules) more c = afterThem rules more (c .1)
+
+-- an answer that is the first rule that holds
+module _ (rules : List Rule) (answer : ℕ) (is : answer ≡ firstOf rules) where
+  pub answered : (n : ℕ) → (answer ≡ suc n) ↔ Given (suc n) rules
+  answered n = (λ e. exactly rules n .0 (sym is ∙ e), λ g. is ∙ exactly rules n .1 g)
+
+  pub accepted : T (numbered rules) → (answer ≡ 0) ↔ Clear rules
+  accepted t = (λ e. clear rules t (sym is ∙ e), λ c. is ∙ noneGiven rules c)

@@ -1,11 +1,12 @@
 -- The formats by their headings: which one a heading has, and what holds of them all.
 -- Assumes nothing.
-use mathlib.Core.Path.{_≡_, refl, ap, _∙_}
+use mathlib.Core.Path.{_≡_, refl, sym, ap, _∙_, subst}
 use mathlib.Core.Bool.{Bool, true, false, cond}
 use Prim.Native.Nat.{ℕ, _+_, _/_}
 use native.Mathlib.Omega.{arith}
+use borrow.Author.Tests.{eqb-true}
 use lib.Dec.{T}
-use Rattle.formats.specs.Format.{Format, octetsFor, once}
+use Rattle.formats.specs.Format.{Format, Behind, nothing, addressSignals, ACM, CATEGORY, INDICATORS, COUNT, octetsFor, most, once}
 use Rattle.formats.specs.Messages.{acmFormat, iamFormat, noFields, ownFormats, amongOwn, headed, formatOf, signalsBehind, hasSignals, fixedLength, isIam, isAcm, half}
 
 abbrev byTests : (iam acm : Bool) → Format
@@ -48,6 +49,61 @@ module _ (h : ℕ) where
       go false true = refl
       go false false = refl
 
+  -- the most that the fields may be
+  pub acmMost : most (formatOf h .fields) ACM ≡ cond (isAcm h) 63 0
+  acmMost = byIam (isIam h) refl
+    where
+      byAcm : (b : Bool) → most (headed (byTests false b) .fields) ACM ≡ cond b 63 0
+      byAcm true = refl
+      byAcm false = refl
+
+      byIam : (a : Bool) → isIam h ≡ a → most (formatOf h .fields) ACM ≡ cond (isAcm h) 63 0
+      byIam true e = subst (λ (k : ℕ). most (formatOf k .fields) ACM ≡ cond (isAcm k) 63 0) (sym (eqb-true h 0x11 e)) refl
+      byIam false e = ap (λ (a : Bool). most (headed (byTests a (isAcm h)) .fields) ACM) e ∙ byAcm (isAcm h)
+
+  pub categoryMost : most (formatOf h .fields) CATEGORY ≡ cond (isIam h) 63 0
+  categoryMost = go (isIam h) (isAcm h)
+    where
+      go : (a b : Bool) → most (headed (byTests a b) .fields) CATEGORY ≡ cond a 63 0
+      go true b = refl
+      go false true = refl
+      go false false = refl
+
+  pub indicatorsMost : most (formatOf h .fields) INDICATORS ≡ cond (isIam h) 2047 0
+  indicatorsMost = go (isIam h) (isAcm h)
+    where
+      go : (a b : Bool) → most (headed (byTests a b) .fields) INDICATORS ≡ cond a 2047 0
+      go true b = refl
+      go false true = refl
+      go false false = refl
+
+  -- and the count, where there are address signals to be counted
+  pub countMost : most (formatOf h .fields) COUNT ≡ cond (hasSignals h) 15 0
+  countMost = go (isIam h) (isAcm h)
+    where
+      go : (a b : Bool) → most (headed (byTests a b) .fields) COUNT ≡ cond (signalsBehind (byTests a b .behind)) 15 0
+      go true b = refl
+      go false true = refl
+      go false false = refl
+
+-- what lies behind the fields
+pub someBehind : (b : Behind) → signalsBehind b ≡ true → b ≡ addressSignals
+someBehind nothing e = absurd (subst T (sym e) tt)
+someBehind addressSignals e = refl
+
+pub noneBehind : (b : Behind) → signalsBehind b ≡ false → b ≡ nothing
+noneBehind nothing e = refl
+noneBehind addressSignals e = absurd (subst T e tt)
+
 -- so many address signals take up half as many octets, rounded up
 pub iamOctets : (n : ℕ) → octetsFor (headed iamFormat) n ≡ 9 + half n
 iamOctets n = omega arith
+
+-- how long a message is: 6 octets, an ACM 7, an IAM 9 and half its count of address signals rounded up
+pub octetsByHeading : (h n : ℕ) → octetsFor (formatOf h) n ≡ cond (isIam h) (9 + half n) (cond (isAcm h) 7 6)
+octetsByHeading h n = go (isIam h) (isAcm h)
+  where
+    go : (a b : Bool) → octetsFor (headed (byTests a b)) n ≡ cond a (9 + half n) (cond b 7 6)
+    go true b = iamOctets n
+    go false true = omega arith
+    go false false = omega arith

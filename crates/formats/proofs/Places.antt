@@ -111,10 +111,11 @@ headPut f c d o k h =
     ∙ ap (λ (l : List ℕ). lowFirst 5 label ++ l) (oneMore (c .says HEADING) rest n h)
 
 -- an ACM's octet
-pub acmPut : (c : Content) → c .signals ≡ [] → c .says ACM < 64 → octetsFrom acmFormat c ≡ c .says ACM ∷ []
-acmPut c e h =
-    let a : (c .says ACM + 64 * (4 * 0)) % 256 ≡ c .says ACM = omega arith in
-    ap (λ (l : List ℕ). octetsFrom acmFormat (record { says = c .says; signals = l })) e ∙ rw a
+pub acmPut : (c : Content) → c .says ACM < 64 → octetsFrom acmFormat c ≡ c .says ACM ∷ []
+acmPut c h =
+    let long : octetsFor acmFormat (length (c .signals)) ≡ 1 = omega arith in
+    let number : numberFrom acmFormat c ≡ c .says ACM + 256 * putEach 0 (c .signals) = omega arith in
+    ap₂ lowFirst long number ∙ oneMore (c .says ACM) (putEach 0 (c .signals)) 0 (omega arith)
 
 -- nothing
 pub nothingPut : (c : Content) → octetsFrom noFields c ≡ []

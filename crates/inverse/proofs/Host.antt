@@ -5,29 +5,32 @@ use mathlib.Core.Path.{_≡_, refl, sym, ap, _∙_, subst}
 use mathlib.Core.Bool.{Bool, true, false, cond, _&&_}
 use mathlib.Core.List.{List}
 use Prim.Native.Nat.{ℕ, zero, suc, _-_, _/_, _%_, _^_, _<_, _≤_}
+use native.Mathlib.Nat.{le-trans}
 use native.Mathlib.Omega.{arith}
 use borrow.Author.Tests.{ltb-false}
-use lib.Dec.{ltb, lit<}
+use lib.Dec.{ltb, lit≤}
 use lib.ListN.{length, take, drop, length-append, length-drop}
 use lib.Seq.{take-at, drop-at, take-append-seam, drop-append-seam}
 use Rattle.circuit.specs.Groups.{badGroup}
 use Rattle.circuit.specs.Refusals.{firstOf, Clear}
 use Rattle.circuit.proofs.Refusals.{clear}
-use Rattle.words.specs.Octets.{over}
+use Rattle.words.specs.Octets.{Octets, over}
+use Rattle.words.proofs.Octets.{numberBack}
 use Rattle.reader.specs.declared.Fields.{Fields}
-use Rattle.reader.specs.Places.{cicIn, headingIn, sixBitsIn, indicatorsIn, addressIn}
-use Rattle.reader.specs.Reading.{noCodes, plainFields, iamFields, fieldsOf}
-use Rattle.formats.specs.Messages.{isIam, isAcm}
-use Rattle.writer.specs.Writing.{Said, badAddress, octetsOf, writeRules, putting, Outcome, writing}
-use Rattle.writer.proofs.Tests.{fitting, few}
+use Rattle.formats.specs.Format.{INDICATORS, most}
+use Rattle.formats.specs.Messages.{formatOf, isIam}
+use Rattle.formats.proofs.Formats.{indicatorsMost}
+use Rattle.reader.specs.Places.{headingIn, fieldBy, signalsBy}
+use Rattle.reader.specs.Reading.{noCodes, fieldsOf}
+use Rattle.writer.specs.Writing.{Said, octetsOf, writeRules, putting, Outcome, writing}
+use Rattle.writer.proofs.Tests.{fitting}
 use Rattle.tup.specs.Entries.{fieldsOctets, Told, telling, readInto, writeFrom}
 use Rattle.tup.proofs.Entries.{fills}
-use Rattle.inverse.specs.Octets.{Octets}
 use Rattle.inverse.specs.Said.{fieldsSaid}
 use Rattle.inverse.specs.Host.{Holds, Begins}
-use Rattle.inverse.proofs.Numbers.{numberBack}
 use Rattle.inverse.proofs.Refusals.{packs, writeRefusal, fromRefusal}
-use Rattle.inverse.proofs.WriteBack.{accepted, circuitFits, atMostFifteen}
+use Rattle.inverse.proofs.ReadBack.{taking, atMostFifteen as saidAtMost}
+use Rattle.inverse.proofs.WriteBack.{accepted, circuitFits, indicatorsFit, atMostFifteen}
 use Rattle.inverse.proofs.Laws.{written, readingBack}
 
 -- A refusal leaves the buffer as it was.
@@ -90,37 +93,30 @@ held f buffer c i n = (
 abbrev Fits : Fields → Type 0
 Fits f = (f .circuit .0 < 256 ^ 2) × (f .indicators < 256 ^ 2) × (length (f .address) ≡ 15)
 
+indicatorsAtMost : (h : ℕ) → most (formatOf h .fields) INDICATORS ≤ 2047
+indicatorsAtMost h = rw (indicatorsMost h) (go (isIam h))
+  where
+    go : (b : Bool) → cond b 2047 0 ≤ 2047
+    go true = lit≤ tt
+    go false = lit≤ tt
+
 fifteen : (address : List ℕ) → length address ≤ 15 → length (over address noCodes) ≡ 15
 fifteen address h = length-append address (drop (length address) noCodes) ∙ omega (arith, length-drop (length address) noCodes)
 
 -- those of octets that are accepted
-readFits : (own far records : ℕ) (xs : List ℕ) → Octets xs → fieldsOf own far records xs .refusal ≡ 0 → Fits (fieldsOf own far records xs)
-readFits own far records xs octets ok = rw (accepted own far records xs octets ok) (go (isIam (headingIn xs)) refl)
-  where
-    go : (b : Bool) → isIam (headingIn xs) ≡ b
-        → Fits (cond b (iamFields (cicIn xs) (sixBitsIn xs) (indicatorsIn xs) (addressIn xs)) (plainFields (cicIn xs) (headingIn xs) (cond (isAcm (headingIn xs)) (sixBitsIn xs) 0)))
-    go true e = let k = circuitFits own far records xs octets ok in (omega arith, omega arith, fifteen (addressIn xs) (atMostFifteen own far records xs octets ok e))
-    go false e = let k = circuitFits own far records xs octets ok in (omega arith, lit< tt, refl)
+readFits : (own far records : ℕ) (xs : List ℕ) → fieldsOf own far records xs .refusal ≡ 0 → Fits (fieldsOf own far records xs)
+readFits own far records xs ok =
+    let k = circuitFits own far records xs ok in
+    let i : fieldBy (formatOf (headingIn xs)) INDICATORS xs ≤ 2047 = le-trans (indicatorsFit own far records xs ok) (indicatorsAtMost (headingIn xs)) in
+    rw (accepted own far records xs ok) (omega arith, omega arith, fifteen (signalsBy (formatOf (headingIn xs)) xs) (atMostFifteen own far records xs ok))
 
 -- those of a message that the writer takes
 saidFits : (own far records : ℕ) (m : Said) (room : ℕ) → firstOf (writeRules own far records m room) ≡ 0 → Fits (fieldsSaid m)
-saidFits own far records m room ok = go (isIam (m .heading)) refl
-  where
-    tests : Clear (writeRules own far records m room)
-    tests = clear (writeRules own far records m room) tt ok
-
-    atMost : isIam (m .heading) ≡ true → length (m .address) ≤ 15
-    atMost i = few (m .address) (subst (λ (b : Bool). (b && badAddress (m .address)) ≡ false) i (tests .1 .1 .1 .1 .0))
-
-    low : isIam (m .heading) ≡ true → m .indicators ≤ 2047
-    low i = subst (λ (b : Bool). m .indicators ≤ cond b 2047 0) i (fitting m (tests .1 .1 .1 .0) .2)
-
-    circuit : m .cic ≤ 4095
-    circuit = ltb-false _ _ (tests .1 .0)
-
-    go : (b : Bool) → isIam (m .heading) ≡ b → Fits (cond b (iamFields (m .cic) (m .category) (m .indicators) (m .address)) (plainFields (m .cic) (m .heading) (m .acm)))
-    go true i = let k = circuit in let l = low i in (omega arith, omega arith, fifteen (m .address) (atMost i))
-    go false i = let k = circuit in (omega arith, lit< tt, refl)
+saidFits own far records m room ok =
+    let t = taking own far records m room ok in
+    let k = t .1 in
+    let i : m .indicators ≤ 2047 = le-trans (fitting m (t .2) .2) (indicatorsAtMost (m .heading)) in
+    (omega arith, omega arith, fifteen (m .address) (saidAtMost own far records m room ok))
 
 -- The fields of a message that is read come back from the buffer's first 23 octets, and the octets beyond keep their contents.
 pub intoFilled : (own far count : ℕ) (xs : List ℕ) → Octets xs → (buffer : List ℕ) → readInto own far count xs buffer .answer ≡ 0
@@ -129,7 +125,7 @@ unfolding readInto
 intoFilled own far count xs octets buffer e =
     let f = fieldsOf own far count xs in
     let t = taken (f .refusal) f buffer e in
-    let k = readFits own far count xs octets (t .0) in
+    let k = readFits own far count xs (t .0) in
     rw (t .1) (held f buffer (k .0) (k .1) (k .2))
   where
     taken : (n : ℕ) (f : Fields) (buffer : List ℕ) → telling n f buffer .answer ≡ 0 → (n ≡ 0) × (telling n f buffer .buffer ≡ over (fieldsOctets f) buffer)
@@ -152,8 +148,4 @@ carried own far count m buffer e theirs group has out room =
     let long = ap (λ (n : ℕ). fieldsOf far own theirs (take n (writeFrom own far count m buffer .buffer))) (packs own far count m buffer .length) in
     let said = long ∙ readingBack own far count m buffer ok theirs group has in
     let k = saidFits own far count m (length buffer) (sym (writeRefusal own far count m buffer) ∙ ok) in
-    rw (fills far own theirs xs out (fieldsSaid m) (sym said) (none (isIam (m .heading))) room) (refl, held (fieldsSaid m) out (k .0) (k .1) (k .2) .0)
-  where
-    none : (b : Bool) → cond b (iamFields (m .cic) (m .category) (m .indicators) (m .address)) (plainFields (m .cic) (m .heading) (m .acm)) .refusal ≡ 0
-    none true = refl
-    none false = refl
+    rw (fills far own theirs xs out (fieldsSaid m) (sym said) refl room) (refl, held (fieldsSaid m) out (k .0) (k .1) (k .2) .0)

@@ -9,12 +9,13 @@ use lib.ListN.{length, take, drop}
 use lib.Seq.{take-append-seam}
 use Rattle.circuit.specs.Groups.{badGroup}
 use Rattle.circuit.specs.Refusals.{firstOf}
-use Rattle.words.specs.Octets.{over}
-use Rattle.formats.specs.Messages.{isIam, isAcm, half}
+use Rattle.words.specs.Octets.{Octets, over}
+use Rattle.formats.specs.Messages.{formatOf}
+use Rattle.formats.proofs.Format as format
+use Rattle.formats.proofs.Formats.{octetsByHeading}
 use Rattle.reader.specs.Reading.{fieldsOf}
-use Rattle.writer.specs.Writing.{Said, labelOf, octetsOf, writeRules, putting, Outcome, writing, iamOctets, acmOctets, plainOctets}
-use Rattle.writer.proofs.Pairs.{length-pairs}
-use Rattle.inverse.specs.Octets.{Octets, cleared}
+use Rattle.writer.specs.Writing.{Said, contentOf, octetsOf, writeRules, putting, Outcome, writing}
+use Rattle.inverse.specs.Octets.{cleared}
 use Rattle.inverse.specs.Said.{fieldsSaid, saidOf, lengthOf}
 use Rattle.inverse.proofs.Refusals.{writeRefusal}
 use Rattle.inverse.proofs.ReadBack.{octetsRead}
@@ -41,7 +42,7 @@ module _ (own far records : ℕ) (m : Said) (buffer : List ℕ) (ok : writing ow
 pub writingBack : (own far records : ℕ) (xs : List ℕ) → Octets xs → fieldsOf own far records xs .refusal ≡ 0
     → (buffer : List ℕ) → length xs ≤ length buffer
     → writing far own records (saidOf (fieldsOf own far records xs)) buffer ≡ record { answer = record { refusal = 0; length = length (cleared xs) }; buffer = over (cleared xs) buffer }
-writingBack = writtenAgain
+writingBack own far records xs octets = writtenAgain own far records xs
 
 -- Two different messages are never written as the same octets.
 pub different : (own far records records' : ℕ) (m m' : Said) (buffer buffer' : List ℕ)
@@ -52,14 +53,7 @@ different own far records records' m m' buffer buffer' ok ok' d e =
 
 pub octetsLong : (own far : ℕ) (m : Said) → length (octetsOf own far m) ≡ lengthOf m
 unfolding octetsOf
-octetsLong own far m = go (isIam (m .heading)) (isAcm (m .heading))
-  where
-    go : (a b : Bool)
-        → length (cond a (iamOctets (labelOf own far (m .cic)) (m .category) (m .indicators) (m .address)) (cond b (acmOctets (labelOf own far (m .cic)) (m .acm)) (plainOctets (labelOf own far (m .cic)) (m .heading))))
-        ≡ cond a 9 (cond b 7 6) + cond a (half (length (m .address))) 0
-    go true b = let e = length-pairs (m .address) in omega arith
-    go false true = refl
-    go false false = refl
+octetsLong own far m = format.lengthFits (formatOf (m .heading)) (contentOf own far m) ∙ octetsByHeading (m .heading) (length (m .address))
 
 -- Every length that the writer can answer fits the heading: 6, an ACM 7, an IAM 9 and half the count rounded up.
 pub lengthFits : (own far records : ℕ) (m : Said) (buffer : List ℕ) → writing own far records m buffer .answer .refusal ≡ 0

@@ -1,5 +1,3 @@
-pub mod Numbers
-pub mod Groups
 pub mod Refusals
 pub mod ReadBack
 pub mod Different

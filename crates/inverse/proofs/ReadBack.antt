@@ -1,48 +1,32 @@
--- Reading what was written gives the message back: at the end addressed, in a group that has the circuit.
+-- Reading what was written gives the message back: at the end addressed, in a group that has the circuit. What was put is got back, by the law of
+-- formats; here stands that the reader takes it.
 -- Assumes nothing.
 use mathlib.Core.Path.{_≡_, refl, sym, ap, _∙_, subst}
 use mathlib.Core.Bool.{Bool, true, false, cond, not, _&&_, _||_}
 use mathlib.Core.List.{List}
-use Prim.Native.Nat.{ℕ, zero, _+_, _*_, _/_, _%_, _^_, _<_, _≤_}
+use Prim.Native.Nat.{ℕ, _+_, _*_, _/_, _^_, _<_, _≤_}
 use native.Mathlib.Omega.{arith}
-use borrow.Author.Tests.{ltb-false, eqb-true, eqb-false, eq-eqb, not-false}
-use lib.Dec.{T, eqb, ltb, lit≤}
-use lib.ListN.{length, take}
+use borrow.Author.Tests.{ltb-false, le-ltb, lt-leb, eqb-false, eq-eqb, ne-eqb, not-false}
+use lib.Dec.{T, eqb, ltb}
+use lib.ListN.{length, getD}
 use Rattle.circuit.specs.Groups.{badGroup}
+use Rattle.circuit.proofs.Groups.{none, inRange}
 use Rattle.circuit.specs.Refusals.{firstOf, Clear}
-use Rattle.circuit.proofs.Refusals.{clear}
-use Rattle.formats.specs.Octets.{pairs, halves, badCodes, aboveFifteen}
-use Rattle.words.specs.Octets.{lowFirst, numberOf}
-use Rattle.formats.specs.Messages.{listed, isIam, isAcm, fixedLength, half}
-use Rattle.reader.specs.Places.{labelIn, cicIn, headingIn, sixBitsIn, wordIn, indicatorsIn, countIn, addressIn}
-use Rattle.reader.specs.Reading.{plainFields, iamFields, fieldsOf}
-use Rattle.reader.specs.Way.{bodyOf}
-use Rattle.writer.specs.Writing.{Said, acmLimit, tooLarge, badAddress, labelOf, plainOctets, acmOctets, iamOctets, octetsOf, writeRules}
-use Rattle.writer.proofs.Pairs.{length-pairs, at-most}
-use Rattle.writer.proofs.Tests.{fitting, fitting-iam, few}
-use Rattle.reader.proofs.Bodies.{ours, taken, iam-taken}
-use Rattle.inverse.proofs.Numbers.{numberBack, codesBack}
-use Rattle.inverse.proofs.Groups.{inRange}
+use Rattle.circuit.proofs.Refusals.{clear, noneGiven}
+use Rattle.formats.specs.Format.{Name, DPC, OPC, CIC, HEADING, ACM, CATEGORY, INDICATORS, COUNT, Behind, nothing, addressSignals, Format, Content, each, many, octetsFor, contentIn, most, Fits}
+use Rattle.formats.specs.Messages.{formatOf, signalsBehind, hasSignals, listed}
+use Rattle.formats.specs.Octets.{badCodes, aboveFifteen}
+use Rattle.formats.proofs.Format as format
+use Rattle.formats.proofs.Formats.{onceEach, countMost, someBehind, noneBehind}
+use Rattle.formats.proofs.Lengths.{octet}
+use Rattle.reader.specs.declared.Fields.{Fields}
+use Rattle.words.specs.Octets.{over}
+use Rattle.reader.specs.Places.{cicIn, headingIn, fieldBy, signalsBy}
+use Rattle.reader.specs.Reading.{elsewhere, unfitBy, formatRules, bodyRules, readRules, noCodes, fieldsIn, unless, fieldsOf}
+use Rattle.writer.specs.Writing.{Said, tooLarge, badAddress, contentOf, octetsOf, writeRules}
+use Rattle.writer.proofs.Pairs.{at-most}
+use Rattle.writer.proofs.Tests.{fitting, few}
 use Rattle.inverse.specs.Said.{fieldsSaid}
-
--- the three fields of a label
-module _ (own far cic : ℕ) (o : own < 16384) (f : far < 16384) (k : cic < 4096) where
-  fits : labelOf own far cic < 256 ^ 5
-  fits = omega arith
-
-  module _ (n : ℕ) (is : n ≡ labelOf own far cic) where
-    dpc : n % 2 ^ 14 ≡ far
-    dpc = omega arith
-
-    opc : n / 2 ^ 14 % 2 ^ 14 ≡ own
-    opc = omega arith
-
-    cicOf : n / 2 ^ 28 ≡ cic
-    cicOf = omega arith
-
-    -- the end addressed takes the label for its own
-    here : (not (eqb (n % 2 ^ 14) far) || not (eqb (n / 2 ^ 14 % 2 ^ 14) own)) ≡ false
-    here = rw (dpc, opc, eq-eqb far far refl, eq-eqb own own refl)
 
 -- an address that is in order
 inOrder : (address : List ℕ) → badAddress address ≡ false → (length address ≡ 0 → ⊥) × (badCodes address ≡ false)
@@ -54,138 +38,141 @@ inOrder address e = go (eqb (length address) 0) (ltb 15 (length address)) refl e
     go false true p q = absurd (subst T q tt)
     go false false p q = (eqb-false (length address) 0 p, q)
 
--- a message that the writer takes, and the group in which the other end reads it
-module _ (own far records : ℕ) (m : Said) (room : ℕ) (ok : firstOf (writeRules own far records m room) ≡ 0)
-    (theirs : ℕ) (group : badGroup far own theirs ≡ false) (has : m .cic < theirs) where
+-- a test that is made only of some
+while : (b : Bool) {t : Bool} → (b ≡ true → t ≡ false) → (b && t) ≡ false
+while true h = h refl
+while false h = refl
+
+-- a length that is not too short, and is exact where nothing is counted
+fitting-length : (b : Bool) (len least : ℕ) → least ≤ len → (b ≡ false → len ≡ least) → cond b (ltb len least) (not (eqb len least)) ≡ false
+fitting-length true len least l e = le-ltb len least l
+fitting-length false len least l e = ap not (eq-eqb len least (e refl))
+
+-- WHAT THE WRITER TAKES
+
+module _ (own far records : ℕ) (m : Said) (room : ℕ) (ok : firstOf (writeRules own far records m room) ≡ 0) where
   tests : Clear (writeRules own far records m room)
   tests = clear (writeRules own far records m room) tt ok
 
-  ownFits : own < 16384
-  ownFits = inRange own far records (tests .0) .0
-
-  farFits : far < 16384
-  farFits = inRange own far records (tests .0) .1
-
-  cicFits : m .cic < 4096
-  cicFits = let h : m .cic ≤ 4095 = ltb-false _ _ (tests .1 .0) in omega arith
+  -- a group, a circuit number, fields
+  pub taking : (badGroup own far records ≡ false) × (m .cic < 4096) × (tooLarge m ≡ false)
+  taking = let h : m .cic ≤ 4095 = ltb-false _ _ (tests .1 .0) in (tests .0, omega arith, tests .1 .1 .1 .0)
 
   known : listed (m .heading) ≡ true
   known = not-false (listed (m .heading)) (tests .1 .1 .0)
 
-  label : ℕ
-  label = labelOf own far (m .cic)
+  -- an address exactly where the heading has one
+  codes : cond (hasSignals (m .heading)) (aboveFifteen (m .address)) (ltb 0 (length (m .address))) ≡ false
+  unfolding tooLarge
+  codes = none (ltb (most (formatOf (m .heading) .fields) ACM) (m .acm)) (ltb (most (formatOf (m .heading) .fields) CATEGORY) (m .category)) (ltb (most (formatOf (m .heading) .fields) INDICATORS) (m .indicators))
+      (cond (hasSignals (m .heading)) (aboveFifteen (m .address)) (ltb 0 (length (m .address)))) (taking .2) .3
 
-  -- the five octets of the label are the label
-  labelBack : numberOf (lowFirst 5 (labelOf own far (m .cic))) ≡ labelOf own far (m .cic)
-  labelBack = numberBack 5 (labelOf own far (m .cic)) (fits own far (m .cic) ownFits farFits cicFits)
-
-  -- octets that begin with the label and a heading are read by that heading
-  module _ (xs : List ℕ) (begins : labelIn xs ≡ labelOf own far (m .cic)) (six : 6 ≤ length xs) where
-    ourBody : fieldsOf far own theirs xs ≡ bodyOf theirs (headingIn xs) xs
-    ourBody = ours far own theirs xs group six (here own far (m .cic) ownFits farFits cicFits (labelIn xs) begins)
-
-    circuit : cicIn xs ≡ m .cic
-    circuit = cicOf own far (m .cic) ownFits farFits cicFits (labelIn xs) begins
-
-    theirCircuit : cicIn xs < theirs
-    theirCircuit = subst (λ (k : ℕ). k < theirs) (sym circuit) has
-
-  acmBack : m .heading ≡ 0x14 → fieldsOf far own theirs (acmOctets (labelOf own far (m .cic)) (m .acm)) ≡ plainFields (m .cic) (m .heading) (m .acm)
-  acmBack h =
-      let xs : List ℕ = acmOctets (labelOf own far (m .cic)) (m .acm) in
-      let most : m .acm ≤ 63 = subst (λ (k : ℕ). m .acm ≤ acmLimit k) h (fitting m (tests .1 .1 .1 .0) .0) in
-      let same : m .acm % 64 ≡ m .acm = omega arith in
-      ourBody xs labelBack (lit≤ tt)
-      ∙ taken theirs 0x14 xs refl refl refl (theirCircuit xs labelBack (lit≤ tt))
-      ∙ ap (λ (k : ℕ). plainFields k 0x14 (m .acm % 64)) (circuit xs labelBack (lit≤ tt))
-      ∙ ap (plainFields (m .cic) 0x14) same
-      ∙ ap (λ (k : ℕ). plainFields (m .cic) k (m .acm)) (sym h)
-
-  plainBack : isIam (m .heading) ≡ false → isAcm (m .heading) ≡ false
-      → fieldsOf far own theirs (plainOctets (labelOf own far (m .cic)) (m .heading)) ≡ plainFields (m .cic) (m .heading) (m .acm)
-  plainBack i a =
-      let xs : List ℕ = plainOctets (labelOf own far (m .cic)) (m .heading) in
-      let none : m .acm ≤ 0 = subst (λ (b : Bool). m .acm ≤ cond b 63 0) a (fitting m (tests .1 .1 .1 .0) .0) in
-      let zero : 0 ≡ m .acm = omega arith in
-      let long : fixedLength (m .heading) ≡ 6 = ap (λ (b : Bool). cond b 9 (cond (isAcm (m .heading)) 7 6)) i ∙ ap (λ (b : Bool). cond b 7 6) a in
-      ourBody xs labelBack (lit≤ tt)
-      ∙ taken theirs (m .heading) xs i known (sym long) (theirCircuit xs labelBack (lit≤ tt))
-      ∙ ap (λ (k : ℕ). plainFields k (m .heading) (cond (isAcm (m .heading)) (sixBitsIn xs) 0)) (circuit xs labelBack (lit≤ tt))
-      ∙ ap (λ (b : Bool). plainFields (m .cic) (m .heading) (cond b (sixBitsIn xs) 0)) a
-      ∙ ap (plainFields (m .cic) (m .heading)) zero
-
-  module _ (h : m .heading ≡ 0x11) where
+  module _ (some : hasSignals (m .heading) ≡ true) where
     ordered : badAddress (m .address) ≡ false
-    ordered = subst (λ (k : ℕ). (isIam k && badAddress (m .address)) ≡ false) h (tests .1 .1 .1 .1 .0)
+    ordered = subst (λ (b : Bool). (b && badAddress (m .address)) ≡ false) some (tests .1 .1 .1 .1 .0)
 
-    fields : (m .category ≤ 63) × (m .indicators ≤ 2047) × (aboveFifteen (m .address) ≡ false)
-    fields = fitting-iam m (tests .1 .1 .1 .0) h
+    fifteen : aboveFifteen (m .address) ≡ false
+    fifteen = subst (λ (b : Bool). cond b (aboveFifteen (m .address)) (ltb 0 (length (m .address))) ≡ false) some codes
 
-    abbrev iamXs : List ℕ
-    iamXs = iamOctets (labelOf own far (m .cic)) (m .category) (m .indicators) (m .address)
+  empty : hasSignals (m .heading) ≡ false → length (m .address) ≤ 0
+  empty e = ltb-false 0 (length (m .address)) (subst (λ (b : Bool). cond b (aboveFifteen (m .address)) (ltb 0 (length (m .address))) ≡ false) e codes)
 
-    -- the two octets of indicators and count hold both
-    wordBack : wordIn iamXs ≡ m .indicators + 4096 * length (m .address)
-    wordBack =
-        let a = few (m .address) ordered in
-        let b = fields .1 in
-        numberBack 2 (m .indicators + 4096 * length (m .address)) (omega arith)
-
-    countBack : countIn iamXs ≡ length (m .address)
-    countBack = let e = wordBack in let b = fields .1 in omega arith
-
-    indicatorsBack : indicatorsIn iamXs ≡ m .indicators
-    indicatorsBack = let e = wordBack in let b = fields .1 in omega arith
-
-    categoryBack : sixBitsIn iamXs ≡ m .category
-    categoryBack = let b = fields .0 in omega arith
-
-    addressBack : addressIn iamXs ≡ m .address
-    addressBack = ap (λ (n : ℕ). take n (halves (pairs (m .address)))) countBack ∙ codesBack (m .address) (λ i l. at-most (m .address) i (fields .2) l)
-
-    long : length iamXs ≡ 9 + half (countIn iamXs)
-    long = let e = countBack in let p = length-pairs (m .address) in omega arith
-
-    iamBack : fieldsOf far own theirs iamXs ≡ iamFields (m .cic) (m .category) (m .indicators) (m .address)
-    iamBack =
-        let n : 9 ≤ length iamXs = omega (arith, long) in
-        ourBody iamXs labelBack (omega arith)
-        ∙ iam-taken theirs iamXs n (λ z. inOrder (m .address) ordered .0 (sym countBack ∙ z)) long (ap badCodes addressBack ∙ inOrder (m .address) ordered .1) (theirCircuit iamXs labelBack (omega arith))
-        ∙ ap (λ (k : ℕ). iamFields k (sixBitsIn iamXs) (indicatorsIn iamXs) (addressIn iamXs)) (circuit iamXs labelBack (omega arith))
-        ∙ ap (λ (k : ℕ). iamFields (m .cic) k (indicatorsIn iamXs) (addressIn iamXs)) categoryBack
-        ∙ ap (λ (k : ℕ). iamFields (m .cic) (m .category) k (addressIn iamXs)) indicatorsBack
-        ∙ ap (iamFields (m .cic) (m .category) (m .indicators)) addressBack
-
-  -- reading the octets of a message gives the message
-  pub octetsRead : fieldsOf far own theirs (octetsOf own far m) ≡ fieldsSaid m
-  unfolding octetsOf
-  octetsRead = byIam (isIam (m .heading)) refl
+  pub atMostFifteen : length (m .address) ≤ 15
+  atMostFifteen = go (hasSignals (m .heading)) refl
     where
-      i : List ℕ
-      i = iamOctets (labelOf own far (m .cic)) (m .category) (m .indicators) (m .address)
+      go : (b : Bool) → hasSignals (m .heading) ≡ b → length (m .address) ≤ 15
+      go true e = few (m .address) (ordered e)
+      go false e = let z = empty e in omega arith
 
-      a : List ℕ
-      a = acmOctets (labelOf own far (m .cic)) (m .acm)
+  -- so the message fits its format
+  abbrev f : Format
+  f = formatOf (m .heading)
 
-      p : List ℕ
-      p = plainOctets (labelOf own far (m .cic)) (m .heading)
+  abbrev c : Content
+  c = contentOf own far m
 
-      byAcm : isIam (m .heading) ≡ false → (b : Bool) → isAcm (m .heading) ≡ b → fieldsOf far own theirs (cond (isAcm (m .heading)) a p) ≡ plainFields (m .cic) (m .heading) (m .acm)
-      byAcm e true f = ap (λ (b : Bool). fieldsOf far own theirs (cond b a p)) f ∙ acmBack (eqb-true (m .heading) 0x14 f)
-      byAcm e false f = ap (λ (b : Bool). fieldsOf far own theirs (cond b a p)) f ∙ plainBack e f
+  saysFit : (n : Name) → c .says n ≤ most (f .fields) n
+  saysFit DPC = let h = inRange own far records (taking .0) .1 in omega arith
+  saysFit OPC = let h = inRange own far records (taking .0) .0 in omega arith
+  saysFit CIC = let h = taking .1 in omega arith
+  saysFit HEADING = let h = octet (m .heading) known in omega arith
+  saysFit ACM = fitting m (taking .2) .0
+  saysFit CATEGORY = fitting m (taking .2) .1
+  saysFit INDICATORS = fitting m (taking .2) .2
+  saysFit COUNT = rw (countMost (m .heading)) (go (hasSignals (m .heading)) refl)
+    where
+      go : (b : Bool) → hasSignals (m .heading) ≡ b → length (m .address) ≤ cond b 15 0
+      go true e = atMostFifteen
+      go false e = empty e
 
-      byIam : (b : Bool) → isIam (m .heading) ≡ b → fieldsOf far own theirs (cond (isIam (m .heading)) i (cond (isAcm (m .heading)) a p)) ≡ fieldsSaid m
-      byIam true e =
-          ap (λ (b : Bool). fieldsOf far own theirs (cond b i (cond (isAcm (m .heading)) a p))) e ∙ iamBack (eqb-true (m .heading) 0x11 e)
-          ∙ sym (ap (λ (b : Bool). cond b (iamFields (m .cic) (m .category) (m .indicators) (m .address)) (plainFields (m .cic) (m .heading) (m .acm))) e)
-      byIam false e =
-          ap (λ (b : Bool). fieldsOf far own theirs (cond b i (cond (isAcm (m .heading)) a p))) e ∙ byAcm e (isAcm (m .heading)) refl
-          ∙ sym (ap (λ (b : Bool). cond b (iamFields (m .cic) (m .category) (m .indicators) (m .address)) (plainFields (m .cic) (m .heading) (m .acm))) e)
+  behindFits : (b : Behind) → f .behind ≡ b → ((i : ℕ) → i < length (m .address) → getD (m .address) i 0 < 2 ^ each b) × (many b (c .says) ≡ length (m .address))
+  behindFits nothing e = let z = empty (ap signalsBehind e) in (λ i h. absurd (omega arith), omega arith)
+  behindFits addressSignals e = (λ i h. let l = at-most (m .address) i (fifteen (ap signalsBehind e)) h in omega arith, refl)
 
--- what the writer takes: a group, a circuit number, fields
-pub taking : (own far records : ℕ) (m : Said) (room : ℕ) → firstOf (writeRules own far records m room) ≡ 0
-    → (badGroup own far records ≡ false) × (m .cic < 4096) × (tooLarge m ≡ false)
-taking own far records m room ok =
-    let t = clear (writeRules own far records m room) tt ok in
-    let h : m .cic ≤ 4095 = ltb-false _ _ (t .1 .0) in
-    (t .0, omega arith, t .1 .1 .1 .0)
+  pub fits : Fits f c
+  fits = record { fields = saysFit; signals = behindFits (f .behind) refl .0; counted = behindFits (f .behind) refl .1 }
+
+  -- THE OTHER END READS IT
+
+  abbrev xs : List ℕ
+  xs = octetsOf own far m
+
+  there : contentIn f xs ≡ c
+  unfolding octetsOf
+  there = format.putIsGot f (onceEach (m .heading)) c fits
+
+  long : length xs ≡ octetsFor f (length (m .address))
+  unfolding octetsOf
+  long = format.lengthFits f c
+
+  says : (n : Name) → contentIn f xs .says n ≡ c .says n
+  says n = ap (λ (c : Content). c .says n) there
+
+  heading : headingIn xs ≡ m .heading
+  heading = says HEADING
+
+  pub circuit : cicIn xs ≡ m .cic
+  circuit = says CIC
+
+  module _ (theirs : ℕ) (group : badGroup far own theirs ≡ false) (has : m .cic < theirs) where
+    fitsLength : unfitBy f (length xs) ≡ false
+    fitsLength = fitting-length (hasSignals (m .heading)) (length xs) (octetsFor f 0) (let l = long in omega arith) (λ e. let z = empty e in long ∙ ap (octetsFor f) (omega arith))
+
+    format-clear : Clear (formatRules theirs f xs)
+    format-clear = (
+      fitsLength,
+      (
+        while (hasSignals (m .heading)) (λ e. ne-eqb _ 0 (λ z. inOrder (m .address) (ordered e) .0 (sym (says COUNT) ∙ z))),
+        (
+          while (hasSignals (m .heading)) (λ e. ap not (eq-eqb _ _ (long ∙ ap (octetsFor f) (sym (says COUNT))))),
+          (
+            while (hasSignals (m .heading)) (λ e. ap (λ (c : Content). badCodes (c .signals)) there ∙ inOrder (m .address) (ordered e) .1),
+            (lt-leb theirs (cicIn xs) (subst (λ (k : ℕ). k < theirs) (sym circuit) has), tt),
+          ),
+        ),
+      ),
+    )
+
+    elsewhere-false : elsewhere far own xs ≡ false
+    elsewhere-false = rw (says DPC, says OPC, eq-eqb far far refl, eq-eqb own own refl)
+
+    all-clear : Clear (readRules far own theirs xs)
+    all-clear = (
+      group,
+      (
+        le-ltb (length xs) 6 (let l = long in omega arith),
+        (elsewhere-false, subst (λ (h : ℕ). Clear (bodyRules theirs h xs)) (sym heading) (ap not known, format-clear)),
+      ),
+    )
+
+    -- reading the octets of a message gives the message
+    pub octetsRead : fieldsOf far own theirs xs ≡ fieldsSaid m
+    unfolding fieldsOf
+    octetsRead =
+        ap (λ (n : ℕ). unless n (fieldsIn (headingIn xs) xs)) (noneGiven (readRules far own theirs xs) all-clear)
+        ∙ ap (λ (h : ℕ). fieldsIn h xs) heading
+        ∙ ap (λ (k : ℕ). record { refusal = 0; circuit = record { 0 = k }; heading = m .heading; acm = fieldBy f ACM xs; category = fieldBy f CATEGORY xs; indicators = fieldBy f INDICATORS xs; count = fieldBy f COUNT xs; address = over (signalsBy f xs) noCodes }) circuit
+        ∙ ap saidBy there
+      where
+        saidBy : Content → Fields
+        saidBy c = record { refusal = 0; circuit = record { 0 = m .cic }; heading = m .heading; acm = c .says ACM; category = c .says CATEGORY; indicators = c .says INDICATORS; count = c .says COUNT; address = over (c .signals) noCodes }

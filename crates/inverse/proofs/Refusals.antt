@@ -10,10 +10,9 @@ use native.Mathlib.Omega.{arith}
 use lib.Dec.{T, ltb, lit≤}
 use lib.ListN.{length}
 use Rattle.circuit.specs.Refusals.{refuse, Rule, firstOf, Given, Clear}
-use Rattle.circuit.proofs.Refusals.{exactly, numbered, clear, noneGiven, beforeThem, afterThem}
-use Rattle.reader.specs.Places.{cicIn, headingIn, sixBitsIn, indicatorsIn, addressIn}
-use Rattle.reader.specs.Reading.{readRules, plainFields, iamFields, fieldsIn, unless, fieldsOf}
-use Rattle.formats.specs.Messages.{isIam, isAcm}
+use Rattle.circuit.proofs.Refusals.{clear, beforeThem, afterThem, answered, accepted}
+use Rattle.reader.specs.Places.{headingIn}
+use Rattle.reader.specs.Reading.{readRules, fieldsIn, unless, fieldsOf}
 use Rattle.writer.specs.Writing.{Said, octetsOf, writeRules, putting, writing}
 use Rattle.tup.specs.Entries.{fieldsOctets, Told, telling, readInto, writeFrom}
 use Rattle.words.specs.Octets.{over}
@@ -24,12 +23,8 @@ pub readRefusal : (own far records : ℕ) (xs : List ℕ) → fieldsOf own far r
 unfolding fieldsOf
 readRefusal own far records xs = go (firstOf (readRules own far records xs))
   where
-    none : (b : Bool) → cond b (iamFields (cicIn xs) (sixBitsIn xs) (indicatorsIn xs) (addressIn xs)) (plainFields (cicIn xs) (headingIn xs) (cond (isAcm (headingIn xs)) (sixBitsIn xs) 0)) .refusal ≡ 0
-    none true = refl
-    none false = refl
-
     go : (n : ℕ) → unless n (fieldsIn (headingIn xs) xs) .refusal ≡ n
-    go zero = none (isIam (headingIn xs))
+    go zero = refl
     go (suc n) = refl
 
 -- and so is the answer of the one that fills a lent buffer, whose own refusal, 11, is last of all
@@ -77,14 +72,6 @@ packs own far count m buffer = let h = writeNumber own far count m buffer in rec
 
 pub fromRefusal : (own far count : ℕ) (m : Said) (buffer : List ℕ) → writeFrom own far count m buffer .answer % 256 ≡ firstOf (writeRules own far count m (length buffer))
 fromRefusal own far count m buffer = packs own far count m buffer .refusal ∙ writeRefusal own far count m buffer
-
--- an answer that is the first rule that holds
-module _ (rules : List Rule) (answer : ℕ) (is : answer ≡ firstOf rules) where
-  pub answered : (n : ℕ) → (answer ≡ suc n) ↔ Given (suc n) rules
-  answered n = (λ e. exactly rules n .0 (sym is ∙ e), λ g. is ∙ exactly rules n .1 g)
-
-  accepted : T (numbered rules) → (answer ≡ 0) ↔ Clear rules
-  accepted t = (λ e. clear rules t (sym is ∙ e), λ c. is ∙ noneGiven rules c)
 
 pub intoGiven : (own far count : ℕ) (xs buffer : List ℕ) (n : ℕ) → (readInto own far count xs buffer .answer ≡ suc n) ↔ Given (suc n) (intoRules own far count xs (length buffer))
 intoGiven own far count xs buffer = answered (intoRules own far count xs (length buffer)) (readInto own far count xs buffer .answer) (intoRefusal own far count xs buffer)

@@ -10,7 +10,8 @@ use borrow.Author.Tests.{ltb-false}
 use lib.Dec.{T, ltb}
 use lib.ListN.{length, getD, set}
 use lib.Seq.{paste, paste-suc}
-use Rattle.formats.specs.Octets.{pairs, aboveFifteen}
+use Rattle.formats.specs.Octets.{aboveFifteen}
+use Rattle.formats.specs.Way.{pairs}
 use Rattle.formats.specs.Messages.{half}
 
 pub length-pairs : (cs : List ℕ) → length (pairs cs) ≡ half (length cs)

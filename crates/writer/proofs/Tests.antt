@@ -10,8 +10,10 @@ use lib.Dec.{T, eqb, ltb}
 use lib.ListN.{length}
 use Rattle.circuit.proofs.Groups.{none}
 use Rattle.formats.specs.Octets.{badCodes, aboveFifteen}
-use Rattle.formats.specs.Messages.{isIam}
-use Rattle.writer.specs.Writing.{Said, acmLimit, categoryLimit, indicatorsLimit, tooLarge, badAddress}
+use Rattle.formats.specs.Format.{ACM, CATEGORY, INDICATORS, most}
+use Rattle.formats.specs.Messages.{formatOf, hasSignals, isIam, isAcm}
+use Rattle.formats.proofs.Formats.{signalsOfIam, acmMost, categoryMost, indicatorsMost}
+use Rattle.writer.specs.Writing.{Said, tooLarge, badAddress}
 
 module _ (a b c d : Bool) where
   pub first : a ≡ true → true ≡ (a || b || c || d)
@@ -27,45 +29,70 @@ module _ (a b c d : Bool) where
   fourth e f g = rw (e, f, g)
 
 -- a number against a limit that was looked up
-pub above : {limit : ℕ} (found n : ℕ) → found ≡ limit → found < n → ltb limit n ≡ true
+above : {limit : ℕ} (found n : ℕ) → found ≡ limit → found < n → ltb limit n ≡ true
 above found n e h = rw (← e) (lt-ltb found n h)
 
-pub within : {limit : ℕ} (found n : ℕ) → found ≡ limit → n ≤ found → ltb limit n ≡ false
+within : {limit : ℕ} (found n : ℕ) → found ≡ limit → n ≤ found → ltb limit n ≡ false
 within found n e h = rw (← e) (le-ltb found n h)
 
 -- the tests of the fields that a message says
 module _ (m : Said) where
   abbrev a : Bool
-  a = ltb (acmLimit (m .heading)) (m .acm)
+  a = ltb (most (formatOf (m .heading) .fields) ACM) (m .acm)
 
   abbrev b : Bool
-  b = ltb (categoryLimit (m .heading)) (m .category)
+  b = ltb (most (formatOf (m .heading) .fields) CATEGORY) (m .category)
 
   abbrev c : Bool
-  c = ltb (indicatorsLimit (m .heading)) (m .indicators)
+  c = ltb (most (formatOf (m .heading) .fields) INDICATORS) (m .indicators)
 
   abbrev d : Bool
-  d = cond (isIam (m .heading)) (aboveFifteen (m .address)) (ltb 0 (length (m .address)))
+  d = cond (hasSignals (m .heading)) (aboveFifteen (m .address)) (ltb 0 (length (m .address)))
 
-  pub wide-acm : a ≡ true → true ≡ tooLarge m
-  unfolding tooLarge
-  wide-acm = first a b c d
+  -- each against the limit that was looked up for it
+  module _ (most₁ : ℕ) (e₁ : most₁ ≡ cond (isAcm (m .heading)) 63 0) where
+    limit₁ : most₁ ≡ most (formatOf (m .heading) .fields) ACM
+    limit₁ = e₁ ∙ sym (acmMost (m .heading))
 
-  pub wide-category : a ≡ false → b ≡ true → true ≡ tooLarge m
-  unfolding tooLarge
-  wide-category = second a b c d
+    pub wide-acm : most₁ < m .acm → true ≡ tooLarge m
+    unfolding tooLarge
+    wide-acm h = first a b c d (above most₁ (m .acm) limit₁ h)
 
-  pub wide-indicators : a ≡ false → b ≡ false → c ≡ true → true ≡ tooLarge m
-  unfolding tooLarge
-  wide-indicators = third a b c d
+    module _ (h₁ : m .acm ≤ most₁) (most₂ : ℕ) (e₂ : most₂ ≡ cond (isIam (m .heading)) 63 0) where
+      fits₁ : a ≡ false
+      fits₁ = within most₁ (m .acm) limit₁ h₁
 
-  pub wide-code : a ≡ false → b ≡ false → c ≡ false → isIam (m .heading) ≡ true → aboveFifteen (m .address) ≡ tooLarge m
-  unfolding tooLarge
-  wide-code e f g i = sym (ap (λ (t : Bool). cond t (aboveFifteen (m .address)) (ltb 0 (length (m .address)))) i) ∙ fourth a b c d e f g
+      limit₂ : most₂ ≡ most (formatOf (m .heading) .fields) CATEGORY
+      limit₂ = e₂ ∙ sym (categoryMost (m .heading))
 
-  pub no-code : a ≡ false → b ≡ false → c ≡ false → isIam (m .heading) ≡ false → ltb 0 (length (m .address)) ≡ tooLarge m
-  unfolding tooLarge
-  no-code e f g i = sym (ap (λ (t : Bool). cond t (aboveFifteen (m .address)) (ltb 0 (length (m .address)))) i) ∙ fourth a b c d e f g
+      pub wide-category : most₂ < m .category → true ≡ tooLarge m
+      unfolding tooLarge
+      wide-category h = second a b c d fits₁ (above most₂ (m .category) limit₂ h)
+
+      module _ (h₂ : m .category ≤ most₂) (most₃ : ℕ) (e₃ : most₃ ≡ cond (isIam (m .heading)) 2047 0) where
+        fits₂ : b ≡ false
+        fits₂ = within most₂ (m .category) limit₂ h₂
+
+        limit₃ : most₃ ≡ most (formatOf (m .heading) .fields) INDICATORS
+        limit₃ = e₃ ∙ sym (indicatorsMost (m .heading))
+
+        pub wide-indicators : most₃ < m .indicators → true ≡ tooLarge m
+        unfolding tooLarge
+        wide-indicators h = third a b c d fits₁ fits₂ (above most₃ (m .indicators) limit₃ h)
+
+        module _ (h₃ : m .indicators ≤ most₃) where
+          just-address : d ≡ tooLarge m
+          unfolding tooLarge
+          just-address = fourth a b c d fits₁ fits₂ (within most₃ (m .indicators) limit₃ h₃)
+
+          abbrev byKind : Bool → Bool
+          byKind t = cond t (aboveFifteen (m .address)) (ltb 0 (length (m .address)))
+
+          pub wide-code : isIam (m .heading) ≡ true → aboveFifteen (m .address) ≡ tooLarge m
+          wide-code i = sym (ap byKind (signalsOfIam (m .heading) ∙ i)) ∙ just-address
+
+          pub no-code : isIam (m .heading) ≡ false → ltb 0 (length (m .address)) ≡ tooLarge m
+          no-code i = sym (ap byKind (signalsOfIam (m .heading) ∙ i)) ∙ just-address
 
 -- where none of the tests of the fields holds, each field fits
 module _ (m : Said) (e : tooLarge m ≡ false) where
@@ -73,18 +100,18 @@ module _ (m : Said) (e : tooLarge m ≡ false) where
   unfolding tooLarge
   each = none (a m) (b m) (c m) (d m) e
 
-  pub fitting : (m .acm ≤ acmLimit (m .heading)) × (m .category ≤ categoryLimit (m .heading)) × (m .indicators ≤ indicatorsLimit (m .heading))
+  pub fitting : (m .acm ≤ most (formatOf (m .heading) .fields) ACM) × (m .category ≤ most (formatOf (m .heading) .fields) CATEGORY) × (m .indicators ≤ most (formatOf (m .heading) .fields) INDICATORS)
   fitting = (ltb-false _ _ (each .0), ltb-false _ _ (each .1), ltb-false _ _ (each .2))
 
   pub fitting-iam : m .heading ≡ 0x11 → (m .category ≤ 63) × (m .indicators ≤ 2047) × (aboveFifteen (m .address) ≡ false)
   fitting-iam i = (
-    subst (λ (h : ℕ). m .category ≤ categoryLimit h) i (fitting .1),
-    subst (λ (h : ℕ). m .indicators ≤ indicatorsLimit h) i (fitting .2),
-    subst (λ (h : ℕ). cond (isIam h) (aboveFifteen (m .address)) (ltb 0 (length (m .address))) ≡ false) i (each .3),
+    subst (λ (h : ℕ). m .category ≤ most (formatOf h .fields) CATEGORY) i (fitting .1),
+    subst (λ (h : ℕ). m .indicators ≤ most (formatOf h .fields) INDICATORS) i (fitting .2),
+    subst (λ (h : ℕ). cond (hasSignals h) (aboveFifteen (m .address)) (ltb 0 (length (m .address))) ≡ false) i (each .3),
   )
 
-pub acm-fits : (h acm : ℕ) → h ≡ 0x14 → acm ≤ acmLimit h → acm ≤ 63
-acm-fits h acm e l = subst (λ (h : ℕ). acm ≤ acmLimit h) e l
+pub acm-fits : (h acm : ℕ) → h ≡ 0x14 → acm ≤ most (formatOf h .fields) ACM → acm ≤ 63
+acm-fits h acm e l = subst (λ (h : ℕ). acm ≤ most (formatOf h .fields) ACM) e l
 
 pub few : (address : List ℕ) → badAddress address ≡ false → length address ≤ 15
 unfolding badAddress

@@ -2,22 +2,29 @@
 -- Assumes nothing.
 use mathlib.Core.Path.{_≡_, refl, sym, ap, _∙_}
 use mathlib.Core.Bool.{Bool, true, false, cond, not, _&&_}
-use mathlib.Core.List.{List, [], _∷_}
+use mathlib.Core.List.{List, [], _∷_, _++_}
 use Prim.Native.Nat.{ℕ, _+_, _*_, _-_, _<_, _≤_}
 use native.Mathlib.Omega.{arith}
-use borrow.Author.Tests.{lt-ltb, le-ltb, eq-eqb, ne-eqb}
+use borrow.Author.Tests.{lt-ltb, le-ltb, eq-eqb, ne-eqb, eqb-true}
 use lib.Dec.{ltb}
 use lib.ListN.{length}
 use lib.Seq.{paste}
 use Rattle.circuit.specs.Groups.{badGroup}
 use Rattle.writer.specs.declared.Written.{Written}
 use Rattle.circuit.specs.Refusals.{refuse, firstOf}
-use Rattle.formats.specs.Octets.{pairs}
-use Rattle.words.specs.Octets.{over}
-use Rattle.formats.specs.Messages.{listed, isIam, isAcm, fixedLength, half}
-use Rattle.writer.specs.Writing.{Said, tooLarge, badAddress, labelOf, plainOctets, acmOctets, iamHead, iamOctets, shortOctets, octetsOf, Outcome, unwritten, putting, writing}
-use Rattle.writer.specs.Way.{iamWriting, shortWriting}
-use Rattle.writer.proofs.Pairs.{length-pairs}
+use Rattle.circuit.proofs.Groups.{inRange}
+use Rattle.formats.specs.Format.{Format, octetsFrom}
+use Rattle.formats.specs.Messages.{iamFormat, amongOwn, ownFormats, headed, hasSignals, listed, isIam, isAcm, fixedLength, half}
+use Rattle.formats.specs.Octets.{aboveFifteen}
+use Rattle.formats.specs.Way.{pairs}
+use Rattle.formats.proofs.Formats.{anIam, anAcm, neither, signalsOfIam, fixedLengths}
+use Rattle.formats.proofs.Lengths.{octet}
+use Rattle.formats.proofs.Places.{headPut, acmPut, nothingPut, iamPut}
+use Rattle.words.specs.Octets.{lowFirst, over}
+use Rattle.writer.specs.Writing.{Said, tooLarge, badAddress, contentOf, octetsOf, Outcome, unwritten, putting, writing}
+use Rattle.writer.specs.Way.{labelOf, plainOctets, acmOctets, iamHead, iamOctets, shortOctets, iamWriting, shortWriting}
+use Rattle.writer.proofs.Pairs.{length-pairs, at-most}
+use Rattle.writer.proofs.Tests.{fitting, fitting-iam, acm-fits, few}
 use Rattle.formats.proofs.Stores.{paste-behind}
 
 -- the outcome of a refusal
@@ -62,7 +69,7 @@ module _ (own far records : ℕ) (m : Said) (buffer : List ℕ) where
   t₂ = not (listed (m .heading))
 
   abbrev t₄ : Bool
-  t₄ = isIam (m .heading) && badAddress (m .address)
+  t₄ = hasSignals (m .heading) && badAddress (m .address)
 
   abbrev t₅ : Bool
   t₅ = ltb (length buffer) (length (octetsOf own far m))
@@ -91,25 +98,66 @@ module _ (own far records : ℕ) (m : Said) (buffer : List ℕ) where
           unfolding writing
           past-fields = past xs buffer t₀ t₁ t₂ (tooLarge m) t₄ t₅ e₀ (le-ltb _ _ h) (ap not l) f
 
-          pub an-iam : m .heading ≡ 0x11 → writing own far records m buffer ≡ iamWriting (labelOf own far (m .cic)) (m .category) (m .indicators) (m .address) buffer
-          unfolding octetsOf iamWriting
-          an-iam e = past-fields ∙ ap (λ (b : Bool). putting (firstOf (refuse 10 (b && badAddress (m .address)) ∷ refuse 11 (ltb (length buffer) (length (cond b i s))) ∷ [])) (cond b i s) buffer) (eq-eqb (m .heading) 0x11 e)
-            where
-              i : List ℕ
-              i = iamOctets (labelOf own far (m .cic)) (m .category) (m .indicators) (m .address)
+          group : (own < 16384) × (far < 16384)
+          group = inRange own far records e₀
 
-              s : List ℕ
-              s = shortOctets (labelOf own far (m .cic)) (m .heading) (m .acm)
+          -- label and heading, and what lies behind them
+          behindHead : (f : Format) → amongOwn (m .heading) ownFormats ≡ f → octetsOf own far m ≡ lowFirst 5 (labelOf own far (m .cic)) ++ (m .heading ∷ octetsFrom f (contentOf own far m))
+          unfolding octetsOf
+          behindHead f e = ap (λ (f : Format). octetsFrom (headed f) (contentOf own far m)) e ∙ headPut f (contentOf own far m) (group .1) (group .0) (omega arith) (octet (m .heading) l)
 
-          pub no-iam : (m .heading ≡ 0x11 → ⊥) → writing own far records m buffer ≡ shortWriting (labelOf own far (m .cic)) (m .heading) (m .acm) buffer
-          unfolding octetsOf shortWriting
-          no-iam e = past-fields ∙ ap (λ (b : Bool). putting (firstOf (refuse 10 (b && badAddress (m .address)) ∷ refuse 11 (ltb (length buffer) (length (cond b i s))) ∷ [])) (cond b i s) buffer) (ne-eqb (m .heading) 0x11 e)
-            where
-              i : List ℕ
-              i = iamOctets (labelOf own far (m .cic)) (m .category) (m .indicators) (m .address)
+          abbrev last-tests : List ℕ → Bool → Outcome
+          last-tests xs b = putting (firstOf (refuse 10 b ∷ refuse 11 (ltb (length buffer) (length xs)) ∷ [])) xs buffer
 
-              s : List ℕ
-              s = shortOctets (labelOf own far (m .cic)) (m .heading) (m .acm)
+          module _ (i : m .heading ≡ 0x11) where
+            fits : (m .category ≤ 63) × (m .indicators ≤ 2047) × (aboveFifteen (m .address) ≡ false)
+            fits = fitting-iam m f i
+
+            an-iams-octets : badAddress (m .address) ≡ false → octetsOf own far m ≡ iamOctets (labelOf own far (m .cic)) (m .category) (m .indicators) (m .address)
+            an-iams-octets ordered =
+                let c = fits .0 in
+                let d = fits .1 in
+                let n = few (m .address) ordered in
+                behindHead _ (anIam (m .heading) (eq-eqb (m .heading) 0x11 i))
+                ∙ ap (λ (h : ℕ). lowFirst 5 (labelOf own far (m .cic)) ++ (h ∷ octetsFrom iamFormat (contentOf own far m))) i
+                ∙ ap (λ (r : List ℕ). lowFirst 5 (labelOf own far (m .cic)) ++ (0x11 ∷ r)) (iamPut (contentOf own far m) (omega arith) (omega arith) (omega arith) (λ i h. at-most (m .address) i (fits .2) h))
+
+            pub an-iam : writing own far records m buffer ≡ iamWriting (labelOf own far (m .cic)) (m .category) (m .indicators) (m .address) buffer
+            unfolding iamWriting
+            an-iam = past-fields ∙ ap (λ (h : ℕ). last-tests xs (hasSignals h && badAddress (m .address))) i ∙ go (badAddress (m .address)) refl
+              where
+                written : List ℕ
+                written = iamOctets (labelOf own far (m .cic)) (m .category) (m .indicators) (m .address)
+
+                go : (b : Bool) → badAddress (m .address) ≡ b → last-tests (octetsOf own far m) (badAddress (m .address)) ≡ last-tests written (badAddress (m .address))
+                go true e = ap (last-tests (octetsOf own far m)) e ∙ sym (ap (last-tests written) e)
+                go false e = ap (λ (l : List ℕ). last-tests l (badAddress (m .address))) (an-iams-octets e)
+
+          module _ (i : m .heading ≡ 0x11 → ⊥) where
+            other : isIam (m .heading) ≡ false
+            other = ne-eqb (m .heading) 0x11 i
+
+            short-octets : octetsOf own far m ≡ shortOctets (labelOf own far (m .cic)) (m .heading) (m .acm)
+            short-octets = go (isAcm (m .heading)) refl
+              where
+                go : (b : Bool) → isAcm (m .heading) ≡ b → octetsOf own far m ≡ shortOctets (labelOf own far (m .cic)) (m .heading) (m .acm)
+                go true e =
+                    let h : m .heading ≡ 0x14 = eqb-true (m .heading) 0x14 e in
+                    let d = acm-fits (m .heading) (m .acm) h (fitting m f .0) in
+                    behindHead _ (anAcm (m .heading) other e)
+                    ∙ ap (λ (r : List ℕ). lowFirst 5 (labelOf own far (m .cic)) ++ (m .heading ∷ r)) (acmPut (contentOf own far m) (omega arith))
+                    ∙ ap (λ (h : ℕ). lowFirst 5 (labelOf own far (m .cic)) ++ (h ∷ m .acm ∷ [])) h
+                    ∙ sym (ap (λ (b : Bool). cond b (acmOctets (labelOf own far (m .cic)) (m .acm)) (plainOctets (labelOf own far (m .cic)) (m .heading))) e)
+                go false e =
+                    behindHead _ (neither (m .heading) other e)
+                    ∙ ap (λ (r : List ℕ). lowFirst 5 (labelOf own far (m .cic)) ++ (m .heading ∷ r)) (nothingPut (contentOf own far m))
+                    ∙ sym (ap (λ (b : Bool). cond b (acmOctets (labelOf own far (m .cic)) (m .acm)) (plainOctets (labelOf own far (m .cic)) (m .heading))) e)
+
+            pub no-iam : writing own far records m buffer ≡ shortWriting (labelOf own far (m .cic)) (m .heading) (m .acm) buffer
+            unfolding shortWriting
+            no-iam =
+                past-fields ∙ ap (λ (b : Bool). last-tests xs (b && badAddress (m .address))) (signalsOfIam (m .heading) ∙ other)
+                ∙ ap (λ (l : List ℕ). last-tests l false) short-octets
 
 -- the rest of an IAM
 module _ (label category indicators : ℕ) (address buffer : List ℕ) where
@@ -152,7 +200,7 @@ module _ (label heading acm : ℕ) (buffer : List ℕ) where
   tested xs b = putting (firstOf (refuse 11 b ∷ [])) xs buffer
 
   length-short : isIam heading ≡ false → length (shortOctets label heading acm) ≡ fixedLength heading
-  length-short e = go (isAcm heading) ∙ sym (ap (λ (b : Bool). cond b 9 (cond (isAcm heading) 7 6)) e)
+  length-short e = go (isAcm heading) ∙ sym (fixedLengths heading ∙ ap (λ (b : Bool). cond b 9 (cond (isAcm heading) 7 6)) e)
     where
       go : (b : Bool) → length (cond b (acmOctets label acm) (plainOctets label heading)) ≡ cond b 7 6
       go true = refl

@@ -1,16 +1,17 @@
 -- What the writer answers, and what the buffer holds then (docs/RULES.md, "Messages on the link" and "Refusals").
 -- Assumes nothing.
 use mathlib.Core.Bool.{Bool, cond, not, _&&_, _||_}
-use mathlib.Core.List.{List, [], _∷_, _++_}
-use Prim.Native.Nat.{ℕ, zero, suc, _+_, _*_, _^_}
+use mathlib.Core.List.{List, [], _∷_}
+use Prim.Native.Nat.{ℕ, zero, suc}
 use lib.Dec.{eqb, ltb}
 use lib.ListN.{length}
 use Rattle.circuit.specs.Groups.{badGroup}
 use Rattle.writer.specs.declared.Written.{Written}
 use Rattle.circuit.specs.Refusals.{refuse, Rule, firstOf}
-use Rattle.formats.specs.Octets.{pairs, badCodes, aboveFifteen}
-use Rattle.words.specs.Octets.{lowFirst, over}
-use Rattle.formats.specs.Messages.{listed, iamHeading, acmHeading, isIam, isAcm}
+use Rattle.formats.specs.Format.{Name, DPC, OPC, CIC, HEADING, ACM, CATEGORY, INDICATORS, COUNT, Format, Content, octetsFrom, most}
+use Rattle.formats.specs.Messages.{formatOf, signalsBehind, hasSignals, listed}
+use Rattle.formats.specs.Octets.{badCodes, aboveFifteen}
+use Rattle.words.specs.Octets.{over}
 
 -- what the writer is told to say
 pub record Said : Type 0 where
@@ -24,52 +25,38 @@ pub record Said : Type 0 where
 abbrev pub said : ℕ → ℕ → ℕ → ℕ → ℕ → List ℕ → Said
 said cic heading acm category indicators address = record { cic = cic; heading = heading; acm = acm; category = category; indicators = indicators; address = address }
 
--- the most that a field may be: 0 for one that the heading does not have, and no spare bit
-abbrev pub acmLimit : ℕ → ℕ
-acmLimit heading = cond (isAcm heading) 63 0
+-- a field is too large or has a spare bit set; of a message with address signals also a code above 15, of any other any address
+abbrev pub tooLargeFor : Format → Said → Bool
+tooLargeFor f m =
+    ltb (most (f .fields) ACM) (m .acm)
+    || ltb (most (f .fields) CATEGORY) (m .category)
+    || ltb (most (f .fields) INDICATORS) (m .indicators)
+    || cond (signalsBehind (f .behind)) (aboveFifteen (m .address)) (ltb 0 (length (m .address)))
 
-abbrev pub categoryLimit : ℕ → ℕ
-categoryLimit heading = cond (isIam heading) 63 0
-
-abbrev pub indicatorsLimit : ℕ → ℕ
-indicatorsLimit heading = cond (isIam heading) 2047 0
-
--- a field is too large or has a spare bit set; of an IAM also an address code above 15, of any other message any address
 unfoldable pub tooLarge : Said → Bool
-tooLarge m =
-    ltb (acmLimit (m .heading)) (m .acm)
-    || ltb (categoryLimit (m .heading)) (m .category)
-    || ltb (indicatorsLimit (m .heading)) (m .indicators)
-    || cond (isIam (m .heading)) (aboveFifteen (m .address)) (ltb 0 (length (m .address)))
+tooLarge m = tooLargeFor (formatOf (m .heading)) m
 
 -- a count of 0 or above 15, a spare code, ST before the end
 unfoldable pub badAddress : List ℕ → Bool
 badAddress address = eqb (length address) 0 || ltb 15 (length address) || badCodes address
 
--- the far code stands in DPC and the own code in OPC
-abbrev pub labelOf : ℕ → ℕ → ℕ → ℕ
-labelOf own far cic = far + 2 ^ 14 * own + 2 ^ 28 * cic
+-- what stands in the fields: the far code in DPC and the own code in OPC
+abbrev pub saying : (own far : ℕ) → Said → Name → ℕ
+saying own far m DPC = far
+saying own far m OPC = own
+saying own far m CIC = m .cic
+saying own far m HEADING = m .heading
+saying own far m ACM = m .acm
+saying own far m CATEGORY = m .category
+saying own far m INDICATORS = m .indicators
+saying own far m COUNT = length (m .address)
 
--- the octets of a message, in which spare bits and filler are 0
-abbrev pub plainOctets : ℕ → ℕ → List ℕ
-plainOctets label heading = lowFirst 5 label ++ (heading ∷ [])
+abbrev pub contentOf : (own far : ℕ) → Said → Content
+contentOf own far m = record { says = saying own far m; signals = m .address }
 
-abbrev pub acmOctets : ℕ → ℕ → List ℕ
-acmOctets label acm = lowFirst 5 label ++ (acmHeading ∷ acm ∷ [])
-
-abbrev pub iamHead : ℕ → ℕ → ℕ → List ℕ
-iamHead label category word = lowFirst 5 label ++ (iamHeading ∷ category ∷ lowFirst 2 word)
-
-abbrev pub iamOctets : ℕ → ℕ → ℕ → List ℕ → List ℕ
-iamOctets label category indicators address = iamHead label category (indicators + 4096 * length address) ++ pairs address
-
-abbrev pub shortOctets : ℕ → ℕ → ℕ → List ℕ
-shortOctets label heading acm = cond (isAcm heading) (acmOctets label acm) (plainOctets label heading)
-
-unfoldable pub octetsOf : ℕ → ℕ → Said → List ℕ
-octetsOf own far m =
-    cond (isIam (m .heading)) (iamOctets (labelOf own far (m .cic)) (m .category) (m .indicators) (m .address))
-    (shortOctets (labelOf own far (m .cic)) (m .heading) (m .acm))
+-- the octets of a message, by its format
+unfoldable pub octetsOf : (own far : ℕ) → Said → List ℕ
+octetsOf own far m = octetsFrom (formatOf (m .heading)) (contentOf own far m)
 
 -- the writer's refusals, in order
 abbrev pub writeRules : ℕ → ℕ → ℕ → Said → ℕ → List Rule
@@ -78,7 +65,7 @@ writeRules own far records m room =
     ∷ refuse 2 (ltb 4095 (m .cic))
     ∷ refuse 9 (not (listed (m .heading)))
     ∷ refuse 3 (tooLarge m)
-    ∷ refuse 10 (isIam (m .heading) && badAddress (m .address))
+    ∷ refuse 10 (hasSignals (m .heading) && badAddress (m .address))
     ∷ refuse 11 (ltb room (length (octetsOf own far m)))
     ∷ []
 

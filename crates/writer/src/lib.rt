@@ -6,11 +6,13 @@ ghost use mathlib.Core.Bool.{true, false, cond};
 ghost use Prim.Native.Nat.{_+_, _≤_};
 ghost use lib.ListN.{length};
 ghost use lib.Seq.{paste};
-ghost use Rattle.formats.specs.Octets.{pairs, aboveFifteen};
+ghost use Rattle.formats.specs.Format.{ACM, most};
+ghost use Rattle.formats.specs.Messages.{formatOf, fixedLength, half, listed, isIam};
+ghost use Rattle.formats.specs.Octets.{aboveFifteen};
+ghost use Rattle.formats.specs.Way.{pairs};
 ghost use Rattle.words.specs.Octets.{over};
-ghost use Rattle.formats.specs.Messages.{fixedLength, half, listed, isIam};
-ghost use Rattle.writer.specs.Writing.{said, tooLarge, badAddress, plainOctets, acmOctets, iamHead, labelOf, acmLimit, unwritten, writing};
-ghost use Rattle.writer.specs.Way.{iamWriting, shortWriting};
+ghost use Rattle.writer.specs.Writing.{said, tooLarge, badAddress, unwritten, writing};
+ghost use Rattle.writer.specs.Way.{labelOf, plainOctets, acmOctets, iamHead, iamWriting, shortWriting};
 
 // The largest circuit number, address signal and count of them, and the most that a field may be: no spare bit is set.
 const LAST_CIC: u32 = 4095;
@@ -186,7 +188,7 @@ fn write_iam(label: u64, category: u32, indicators: u32, address: &[u8], out: &m
 
 // Any other message whose fields are in order.
 fn write_short(label: u64, heading: u32, acm: u32, fixed: usize, out: &mut [u8]) -> Written
-    requires { ⌜ (listed heading ≡ true) × (isIam heading ≡ false) × (acm ≤ acmLimit heading) × (fixed ≡ fixedLength heading) ⌝ }
+    requires { ⌜ (listed heading ≡ true) × (isIam heading ≡ false) × (acm ≤ most (formatOf heading .fields) ACM) × (fixed ≡ fixedLength heading) ⌝ }
     ensures answers { λ r. ⌜ r ≡ shortWriting label heading acm (now (out .entry)) .answer ⌝ }
     ensures leaves { λ _. ⌜ now (out .exit) ≡ shortWriting label heading acm (now (out .entry)) .buffer ⌝ }
 {

@@ -1,7 +1,7 @@
 -- `writer::put_acm` meets its contract.
 -- Assumes nothing.
 use Rattle.formats.proofs.Stores.{store-more}
-use Rattle.writer.specs.Writing.{plainOctets}
+use Rattle.writer.specs.Way.{plainOctets}
 use lib.ListN.{set}
 use mathlib.Core.Path.{_∙_, ap}
 use Prim.Native.Nat.{ℕ}

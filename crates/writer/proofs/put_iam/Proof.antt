@@ -2,7 +2,7 @@
 -- Assumes nothing.
 use native.Mathlib.Omega.{arith}
 use Rattle.formats.proofs.Stores.{store-more}
-use Rattle.writer.specs.Writing.{plainOctets}
+use Rattle.writer.specs.Way.{plainOctets}
 use Rattle.words.specs.Octets.{lowFirst}
 use lib.Seq.{sets}
 use lib.ListN.{length-set}

@@ -3,7 +3,7 @@
 use native.Mathlib.Omega.{arith}
 use borrow.Author.Needs.{needs}
 use Rattle.writer.proofs.Pairs.{pairs-more, pairs-odd, pairs-even, at-most}
-use Rattle.formats.specs.Octets.{pairs}
+use Rattle.formats.specs.Way.{pairs}
 use lib.Seq.{paste, paste-zero}
 use lib.ListN.{length, length-set}
 use Prim.Native.Nat.{_≤_, _-_, _/_, _*_, _+_}

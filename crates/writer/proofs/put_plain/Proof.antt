@@ -1,7 +1,7 @@
 -- `writer::put_plain` meets its contract.
 -- Assumes nothing.
 use native.Mathlib.Omega.{arith}
-use Rattle.writer.specs.Writing.{plainOctets}
+use Rattle.writer.specs.Way.{plainOctets}
 use lib.ListN.{length-set}
 use lib.Seq.{sets-eq}
 use borrow.Author.Needs.{needs}
