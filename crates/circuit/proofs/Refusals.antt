@@ -45,7 +45,20 @@ afterThem [] more c = refl
 afterThem (refuse k true ∷ rules) more c = absurd (subst T (c .0) tt)
 afterThem (refuse k false ∷ rules) more c = afterThem rules more (c .1)
 
--- an answer that is the first rule that holds
+-- Two lists with the same numbers and conditions are the same.
+abbrev pub Alike : List Rule → List Rule → Type 0
+Alike [] [] = Unit {0}
+Alike [] (r ∷ others) = ⊥
+Alike (r ∷ rules) [] = ⊥
+Alike (refuse n a ∷ rules) (refuse k b ∷ others) = (n ≡ k) × (a ≡ b) × Alike rules others
+
+pub alike : (rules others : List Rule) → Alike rules others → rules ≡ others
+alike [] [] e = refl
+alike [] (r ∷ others) e = absurd e
+alike (r ∷ rules) [] e = absurd e
+alike (refuse n a ∷ rules) (refuse k b ∷ others) e = λ i. refuse (e .0 i) (e .1 i) ∷ alike rules others (e .2) i
+
+-- An answer that is the first rule that holds: each number is answered exactly when it is given, and 0 exactly when none is.
 module _ (rules : List Rule) (answer : ℕ) (is : answer ≡ firstOf rules) where
   pub answered : (n : ℕ) → (answer ≡ suc n) ↔ Given (suc n) rules
   answered n = (λ e. exactly rules n .0 (sym is ∙ e), λ g. is ∙ exactly rules n .1 g)

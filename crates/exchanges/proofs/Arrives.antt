@@ -20,17 +20,20 @@ use Rattle.codes.specs.declared.Found.{Found}
 use Rattle.codes.specs.declared.Found.the-variants.{Missing}
 use Rattle.codes.specs.Headings.{signalOf}
 use Rattle.codes.specs.Numbers.{detailFits, arrives as named-event, eventOf}
-use Rattle.words.specs.Octets.{over}
+use Rattle.words.specs.Octets.{numberOf, over}
+use Rattle.words.proofs.Octets.{numberBack}
 use Rattle.layout.specs.Layout.{recordsIn, recordAt}
 use Rattle.group.specs.Table.{stepIn}
 use Rattle.reader.specs.declared.Fields.{Fields}
-use Rattle.reader.specs.Places.{cicIn, headingIn, sixBitsIn}
+use Rattle.formats.specs.Format.{ACM}
+use Rattle.formats.specs.Messages.{formatOf, isAcm}
+use Rattle.formats.proofs.Format.{gotFits}
+use Rattle.formats.proofs.Formats.{acmMost}
+use Rattle.reader.specs.Places.{cicIn, headingIn, fieldBy}
 use Rattle.reader.specs.Reading.{readRules, fieldsIn, unless, fieldsOf}
-use Rattle.formats.specs.Messages.{isIam, isAcm}
 use Rattle.writer.specs.Writing.{badAddress}
 use Rattle.tup.specs.Entries.{fieldsOctets, Told}
 use Rattle.tup.proofs.Entries.{refuses, fills}
-use Rattle.inverse.proofs.Numbers.{numberBack}
 use Rattle.inverse.proofs.Refusals.{readRefusal}
 use Rattle.ends.specs.Machine.{acted, arrival, Happening.arrives, Happening.host}
 use Rattle.ends.specs.Ends.{end, inOrder, does}
@@ -71,17 +74,19 @@ module _ (own far watched : ℕ) (table : List ℕ) (m : Message) where
   unfolding fieldsOf
   fitting = go (firstOf (readRules own far (recordsIn (length table)) m))
     where
-      byAcm : (b : Bool) → isAcm (headingIn m) ≡ b → detailFits (headingIn m) (cond b (sixBitsIn m) 0) ≡ true
-      byAcm true e = let l : sixBitsIn m ≤ 255 = omega arith in rw (isTrue (leb (sixBitsIn m) 255) (le→leb (sixBitsIn m) 255 l), e) refl
-      byAcm false e = rw e refl
+      octet : ℕ
+      octet = fieldBy (formatOf (headingIn m)) ACM m
 
-      byIam : (b : Bool) → isIam (headingIn m) ≡ b → detailFits (fieldsIn (headingIn m) m .heading) (fieldsIn (headingIn m) m .acm) ≡ true
-      byIam true e = rw e refl
-      byIam false e = rw e (byAcm (isAcm (headingIn m)) refl)
+      most : octet ≤ cond (isAcm (headingIn m)) 63 0
+      most = subst (λ (k : ℕ). octet ≤ k) (acmMost (headingIn m)) (gotFits (formatOf (headingIn m)) (numberOf m) .fields ACM)
+
+      byAcm : (b : Bool) → isAcm (headingIn m) ≡ b → octet ≤ cond b 63 0 → detailFits (headingIn m) octet ≡ true
+      byAcm true e h = let l : octet ≤ 255 = omega arith in rw (isTrue (leb octet 255) (le→leb octet 255 l), e) refl
+      byAcm false e h = let z : octet ≡ 0 = omega arith in rw (z, e) refl
 
       go : (n : ℕ) → unless n (fieldsIn (headingIn m) m) .refusal ≡ 0
           → detailFits (unless n (fieldsIn (headingIn m) m) .heading) (unless n (fieldsIn (headingIn m) m) .acm) ≡ true
-      go zero e = byIam (isIam (headingIn m)) refl
+      go zero e = byAcm (isAcm (headingIn m)) refl most
       go (suc n) e = absurd (omega arith)
 
 module _ (own far cic : ℕ) where

@@ -19,11 +19,11 @@ use Rattle.reader.specs.Reading.{fieldsOf}
 use Rattle.writer.specs.Writing.{Said, octetsOf, writeRules}
 use Rattle.tup.specs.Entries.{Told, writeFrom}
 use Rattle.inverse.proofs.Refusals.{fromRefusal}
-use Rattle.inverse.proofs.ReadBack.{octetsRead}
+use Rattle.inverse.proofs.ReadBack.{circuit as circuitWritten, octetsRead}
 use Rattle.ends.specs.Machine.{none, without}
 use Rattle.ends.proofs.Words.{word, heard, heard-more}
 use Rattle.exchanges.specs.Link.{Message, isAbout, Particulars, good, saying, writes, writesAll}
-use Rattle.exchanges.proofs.Sent.{isFalse, writerTakes, accepted, goesOutWhole, circuitWritten, heardIn, sameWord}
+use Rattle.exchanges.proofs.Sent.{isFalse, writerTakes, accepted, goesOutWhole, heardIn, sameWord}
 
 -- own, far, count: the reader's group
 module _ (own far count cic : ℕ) where

@@ -20,17 +20,16 @@ use Rattle.codes.specs.declared.Named.{Named}
 use Rattle.codes.specs.declared.Named.the-variants.{Known, Unknown}
 use Rattle.codes.specs.Headings.{headingOf, signalOf}
 use Rattle.formats.specs.Octets.{aboveFifteen}
-use Rattle.formats.specs.Messages.{listed, isIam, half}
+use Rattle.formats.specs.Messages.{hasSignals, listed, half}
 use Rattle.reader.specs.declared.Fields.{Fields}
 use Rattle.reader.specs.Places.{cicIn, headingIn}
-use Rattle.reader.specs.Reading.{readRules, plainFields, iamFields, fieldsIn, unless, fieldsOf, reading}
+use Rattle.reader.specs.Reading.{readRules, fieldsIn, unless, fieldsOf, reading}
 use Rattle.writer.specs.Writing.{Said, tooLarge, badAddress, octetsOf, writeRules}
 use Rattle.writer.proofs.Tests.{few}
 use Rattle.tup.specs.Entries.{writeFrom}
 use Rattle.inverse.specs.Said.{fieldsSaid, lengthOf}
-use Rattle.inverse.proofs.Groups.{turned}
 use Rattle.inverse.proofs.Refusals.{fromRefusal}
-use Rattle.inverse.proofs.ReadBack.{octetsRead, taking}
+use Rattle.inverse.proofs.ReadBack.{octetsRead}
 use Rattle.inverse.proofs.Laws.{octetsLong}
 use Rattle.inverse.proofs.Host.{fromFilled}
 use Rattle.ends.proofs.Words.{word, heard}
@@ -88,7 +87,7 @@ module _ (own far count cic : ℕ) (group : badGroup own far count ≡ false) (h
   abbrev Taken : ℕ → Type 0
   Taken h = firstOf (writeRules own far count (saying cic h p) (length (p .buffer))) ≡ 0
 
-  taken : (h : ℕ) → listed h ≡ true → tooLarge (saying cic h p) ≡ false → (isIam h && badAddress (saying cic h p .address)) ≡ false
+  taken : (h : ℕ) → listed h ≡ true → tooLarge (saying cic h p) ≡ false → (hasSignals h && badAddress (saying cic h p .address)) ≡ false
       → lengthOf (saying cic h p) ≤ 17 → Taken h
   taken h known fit ordered short =
       let low : cic < 4096 = below own far count cic group has in
@@ -110,7 +109,7 @@ module _ (own far count cic : ℕ) (group : badGroup own far count ≡ false) (h
         ),
       )
 
-  plainTaken : (h : ℕ) → listed h ≡ true → tooLarge (saying cic h p) ≡ false → isIam h ≡ false → lengthOf (saying cic h p) ≤ 17 → Taken h
+  plainTaken : (h : ℕ) → listed h ≡ true → tooLarge (saying cic h p) ≡ false → hasSignals h ≡ false → lengthOf (saying cic h p) ≤ 17 → Taken h
   plainTaken h known fit i = taken h known fit (ap (λ (b : Bool). b && badAddress (saying cic h p .address)) i)
 
   iamFits : tooLarge (saying cic 0x11 p) ≡ false
@@ -170,27 +169,8 @@ unfolding fieldsOf
 circuitRead own far count xs = go (firstOf (readRules own far count xs))
   where
     go : (n : ℕ) → unless n (fieldsIn (headingIn xs) xs) .refusal ≡ 0 → unless n (fieldsIn (headingIn xs) xs) .circuit .0 ≡ cicIn xs
-    go zero e = named (isIam (headingIn xs)) refl
-      where
-        named : (b : Bool) → isIam (headingIn xs) ≡ b → fieldsIn (headingIn xs) xs .circuit .0 ≡ cicIn xs
-        named true i = rw i refl
-        named false i = rw i refl
+    go zero e = refl
     go (suc n) e = absurd (omega arith)
-
--- the label names the circuit that the writer was told
-pub circuitWritten : (own far count : ℕ) (m : Said) (room : ℕ) → firstOf (writeRules own far count m room) ≡ 0 → cicIn (octetsOf own far m) ≡ m .cic
-circuitWritten own far count m room ok =
-    let t = taking own far count m room ok in
-    let back = octetsRead own far count m room ok 4096 (turned own far count 4096 (t .0) refl) (t .1) in
-    sym (circuitRead far own 4096 (octetsOf own far m) (ap (λ (f : Fields). f .refusal) back ∙ none (isIam (m .heading)))) ∙ ap (λ (f : Fields). f .circuit .0) back ∙ named (isIam (m .heading))
-  where
-    none : (b : Bool) → cond b (iamFields (m .cic) (m .category) (m .indicators) (m .address)) (plainFields (m .cic) (m .heading) (m .acm)) .refusal ≡ 0
-    none true = refl
-    none false = refl
-
-    named : (b : Bool) → cond b (iamFields (m .cic) (m .category) (m .indicators) (m .address)) (plainFields (m .cic) (m .heading) (m .acm)) .circuit .0 ≡ m .cic
-    named true = refl
-    named false = refl
 
 -- the signal that fields name, if they are accepted
 abbrev pub named : Named → List Signal

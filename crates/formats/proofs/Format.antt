@@ -5,7 +5,7 @@ use mathlib.Core.Path.{_≡_, refl, sym, ap, ap₂, _∙_, subst, fun-ext}
 use mathlib.Core.Bool.{Bool, true, false, cond, not, _&&_, _||_}
 use mathlib.Core.List.{List, [], _∷_, _++_, append-assoc}
 use Prim.Native.Nat.{ℕ, zero, suc, _+_, _*_, _-_, _/_, _%_, _^_, _<_, _≤_}
-use native.Mathlib.Nat.{lt-of-lt-of-le, pow-suc, pow-succ', mul-assoc, mul-zero, mul-suc, zero-add, add-assoc, mod-lt, div-div-eq-div-mul, mul-div-cancel-left, add-mul-div-left, add-mul-mod-self-left, mod-eq-of-lt, div-eq-of-lt, mul-le-mul-left}
+use native.Mathlib.Nat.{lt-of-lt-of-le, zero-div, pow-suc, pow-succ', mul-assoc, mul-zero, mul-suc, zero-add, add-assoc, mod-lt, div-div-eq-div-mul, mul-div-cancel-left, add-mul-div-left, add-mul-mod-self-left, mod-eq-of-lt, div-eq-of-lt, mul-le-mul-left}
 use native.Mathlib.Omega.{arith}
 use borrow.Author.Tests.{eqb-true, eq-eqb}
 use lib.Dec.{T, lit<}
@@ -291,3 +291,26 @@ gotIsPut f t xs long =
     fieldsAgain (f .fields) (get (f .fields) k) k _ _ t (λ m p. refl)
     (eachAgain w n (above (f .fields) k) ∙ ap (λ (j : ℕ). only (replicate (w * j) true) (above (f .fields) k)) (sym (howMany w n (above (f .fields) k)))) in
     ap₂ lowFirst (sym long) e
+
+-- bit by bit: what the list keeps is as it was, and all else is 0
+pub eachBit : (bs : List Bool) (k i : ℕ) → only bs k / 2 ^ i % 2 ≡ cond (getD bs i false) (k / 2 ^ i % 2) 0
+eachBit [] k i = ap (λ (n : ℕ). n % 2) (zero-div (2 ^ i))
+eachBit (b ∷ bs) k zero = go b
+  where
+    rest : ℕ
+    rest = only bs (k / 2)
+
+    go : (b : Bool) → (cond b (k % 2) 0 + 2 * rest) / 1 % 2 ≡ cond b (k / 1 % 2) 0
+    go true = let e : (k % 2 + 2 * rest) / 1 ≡ k % 2 + 2 * rest = omega arith in let d : k / 1 ≡ k = omega arith in rw (e, d) (omega arith)
+    go false = let e : (0 + 2 * rest) / 1 ≡ 2 * rest = omega arith in rw e (omega arith)
+eachBit (b ∷ bs) k (suc i) =
+    let q : (cond b (k % 2) 0 + 2 * only bs (k / 2)) / 2 ≡ only bs (k / 2) = go b in
+    ap (λ (n : ℕ). n % 2) (halved (cond b (k % 2) 0 + 2 * only bs (k / 2)) ∙ ap (λ (n : ℕ). n / 2 ^ i) q)
+    ∙ eachBit bs (k / 2) i ∙ ap (λ (n : ℕ). cond (getD bs i false) (n % 2) 0) (sym (halved k))
+  where
+    halved : (n : ℕ) → n / 2 ^ suc i ≡ n / 2 / 2 ^ i
+    halved n = ap (λ (p : ℕ). n / p) (pow-succ' 2 i) ∙ sym (div-div-eq-div-mul n 2 (2 ^ i))
+
+    go : (b : Bool) → (cond b (k % 2) 0 + 2 * only bs (k / 2)) / 2 ≡ only bs (k / 2)
+    go true = omega arith
+    go false = omega arith

@@ -1,11 +1,11 @@
 -- The formats by their headings: which one a heading has, and what holds of them all.
 -- Assumes nothing.
 use mathlib.Core.Path.{_≡_, refl, sym, ap, _∙_, subst}
-use mathlib.Core.Bool.{Bool, true, false, cond}
+use mathlib.Core.Bool.{Bool, true, false, cond, not, _&&_}
 use Prim.Native.Nat.{ℕ, _+_, _/_}
 use native.Mathlib.Omega.{arith}
 use borrow.Author.Tests.{eqb-true}
-use lib.Dec.{T}
+use lib.Dec.{T, eqb}
 use Rattle.formats.specs.Format.{Format, Behind, nothing, addressSignals, ACM, CATEGORY, INDICATORS, COUNT, octetsFor, most, once}
 use Rattle.formats.specs.Messages.{acmFormat, iamFormat, noFields, ownFormats, amongOwn, headed, formatOf, signalsBehind, hasSignals, fixedLength, isIam, isAcm, half}
 
@@ -107,3 +107,11 @@ octetsByHeading h n = go (isIam h) (isAcm h)
     go true b = iamOctets n
     go false true = omega arith
     go false false = omega arith
+
+-- a length that is not what the count asks for
+pub countedLength : (h len n : ℕ) → (hasSignals h && not (eqb len (octetsFor (formatOf h) n))) ≡ (isIam h && not (eqb len (9 + half n)))
+countedLength h len n = ap (λ (k : ℕ). hasSignals h && not (eqb len k)) (octetsByHeading h n) ∙ ap (λ (b : Bool). b && not (eqb len (cond (isIam h) (9 + half n) (cond (isAcm h) 7 6)))) (signalsOfIam h) ∙ go (isIam h)
+  where
+    go : (a : Bool) → (a && not (eqb len (cond a (9 + half n) (cond (isAcm h) 7 6)))) ≡ (a && not (eqb len (9 + half n)))
+    go true = refl
+    go false = refl

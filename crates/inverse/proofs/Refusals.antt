@@ -1,16 +1,14 @@
--- The answers of reader and writer, refusal by refusal: each number is answered exactly when its test holds and none before it does, and none
--- is exactly when no test holds.
+-- The answers of reader and writer are the first of their rules that holds, also through the entries for C.
 -- Assumes nothing.
 use mathlib.Core.Path.{_≡_, refl, sym, ap, _∙_}
 use mathlib.Core.Bool.{Bool, true, false, cond}
 use mathlib.Core.List.{List, [], _∷_}
-use mathlib.Core.Logic.{_↔_}
 use Prim.Native.Nat.{ℕ, zero, suc, _%_, _≤_}
 use native.Mathlib.Omega.{arith}
-use lib.Dec.{T, ltb, lit≤}
+use lib.Dec.{ltb, lit≤}
 use lib.ListN.{length}
-use Rattle.circuit.specs.Refusals.{refuse, Rule, firstOf, Given, Clear}
-use Rattle.circuit.proofs.Refusals.{clear, beforeThem, afterThem, answered, accepted}
+use Rattle.circuit.specs.Refusals.{refuse, Rule, firstOf}
+use Rattle.circuit.proofs.Refusals.{clear, beforeThem, afterThem}
 use Rattle.reader.specs.Places.{headingIn}
 use Rattle.reader.specs.Reading.{readRules, fieldsIn, unless, fieldsOf}
 use Rattle.writer.specs.Writing.{Said, octetsOf, writeRules, putting, writing}
@@ -72,15 +70,3 @@ packs own far count m buffer = let h = writeNumber own far count m buffer in rec
 
 pub fromRefusal : (own far count : ℕ) (m : Said) (buffer : List ℕ) → writeFrom own far count m buffer .answer % 256 ≡ firstOf (writeRules own far count m (length buffer))
 fromRefusal own far count m buffer = packs own far count m buffer .refusal ∙ writeRefusal own far count m buffer
-
-pub intoGiven : (own far count : ℕ) (xs buffer : List ℕ) (n : ℕ) → (readInto own far count xs buffer .answer ≡ suc n) ↔ Given (suc n) (intoRules own far count xs (length buffer))
-intoGiven own far count xs buffer = answered (intoRules own far count xs (length buffer)) (readInto own far count xs buffer .answer) (intoRefusal own far count xs buffer)
-
-pub fromGiven : (own far count : ℕ) (m : Said) (buffer : List ℕ) (n : ℕ) → (writeFrom own far count m buffer .answer % 256 ≡ suc n) ↔ Given (suc n) (writeRules own far count m (length buffer))
-fromGiven own far count m buffer = answered (writeRules own far count m (length buffer)) (writeFrom own far count m buffer .answer % 256) (fromRefusal own far count m buffer)
-
-pub intoTaken : (own far count : ℕ) (xs buffer : List ℕ) → (readInto own far count xs buffer .answer ≡ 0) ↔ Clear (intoRules own far count xs (length buffer))
-intoTaken own far count xs buffer = accepted (intoRules own far count xs (length buffer)) (readInto own far count xs buffer .answer) (intoRefusal own far count xs buffer) tt
-
-pub fromTaken : (own far count : ℕ) (m : Said) (buffer : List ℕ) → (writeFrom own far count m buffer .answer % 256 ≡ 0) ↔ Clear (writeRules own far count m (length buffer))
-fromTaken own far count m buffer = accepted (writeRules own far count m (length buffer)) (writeFrom own far count m buffer .answer % 256) (fromRefusal own far count m buffer) tt

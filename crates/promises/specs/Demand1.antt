@@ -3,7 +3,7 @@
 -- That there is an answer for all arguments is what the check of the program shows: no public function has a `requires`, and each ends. Here stands
 -- which refusal is given exactly when, and that it changes nothing. `firstOf` is the number of the first rule that holds, 0 for none.
 -- Assumes nothing.
-use mathlib.Core.Path.{_≡_, refl}
+use mathlib.Core.Path.{_≡_, refl, ap, _∙_}
 use mathlib.Core.Bool.{Bool, true, false, not, _&&_, _||_}
 use mathlib.Core.List.{List, [], _∷_, _++_}
 use mathlib.Core.Logic.{_↔_}
@@ -23,6 +23,7 @@ use Rattle.circuit.specs.Records.{valid}
 use Rattle.circuit.specs.Rows.{refused}
 use Rattle.circuit.specs.Groups.{badGroup, controls}
 use Rattle.circuit.specs.Refusals.{Rule, refuse, firstOf, Given, Clear}
+use Rattle.circuit.proofs.Refusals.{alike, answered, accepted}
 use Rattle.codes.specs.declared.Found.{Found}
 use Rattle.codes.specs.declared.Found.the-variants.{Is, Missing}
 use Rattle.codes.specs.Numbers.{eventOf}
@@ -46,9 +47,11 @@ use Rattle.formats.specs.Messages.{listed, isIam, half}
 use Rattle.formats.specs.Octets.{badCodes}
 use Rattle.reader.specs.Places.{cicIn, headingIn, countIn, addressIn}
 use Rattle.reader.specs.Reading.{elsewhere, unfit, fieldsOf}
-use Rattle.writer.specs.Writing.{Said, tooLarge, badAddress, octetsOf}
+use Rattle.formats.proofs.Formats.{signalsOfIam, countedLength}
+use Rattle.writer.specs.Writing.{Said, tooLarge, badAddress, octetsOf, writeRules}
 use Rattle.tup.specs.Entries.{readInto, writeFrom}
-use Rattle.inverse.proofs.Refusals.{answered, intoRefusal, intoGiven, intoTaken, fromRefusal, fromGiven, fromTaken}
+use Rattle.inverse.specs.Host.{intoRules}
+use Rattle.inverse.proofs.Refusals.{intoRefusal, fromRefusal}
 use Rattle.inverse.proofs.Host.{intoKept, fromKept, fromFilled, intoFilled}
 
 -- EVENTS
@@ -180,15 +183,26 @@ readerRules own far count xs room =
     ∷ refuse 11 (ltb room 23)
     ∷ []
 
+-- the reader goes by the format of the heading; by the letter that is this
+readByLetter : (own far count : ℕ) (xs : List ℕ) (room : ℕ) → intoRules own far count xs room ≡ readerRules own far count xs room
+readByLetter own far count xs room =
+    let h = headingIn xs in
+    let iam = signalsOfIam h in
+    alike (intoRules own far count xs room) (readerRules own far count xs room) (
+      refl,
+      refl,
+      (refl, refl, (refl, refl, (refl, refl, (refl, refl, (refl, ap (λ (b : Bool). b && eqb (countIn xs) 0) iam, (refl, countedLength h (length xs) (countIn xs), (refl, ap (λ (b : Bool). b && badCodes (addressIn xs)) iam, (refl, refl, (refl, refl, tt))))))))),
+    )
+
 pub readRefused : (own far count : ℕ) (xs buffer : List ℕ) → readInto own far count xs buffer .answer ≡ firstOf (readerRules own far count xs (length buffer))
-readRefused = intoRefusal
+readRefused own far count xs buffer = intoRefusal own far count xs buffer ∙ ap firstOf (readByLetter own far count xs (length buffer))
 
 pub readGiven : (own far count : ℕ) (xs buffer : List ℕ) (n : ℕ)
     → (readInto own far count xs buffer .answer ≡ suc n) ↔ Given (suc n) (readerRules own far count xs (length buffer))
-readGiven = intoGiven
+readGiven own far count xs buffer = answered (readerRules own far count xs (length buffer)) (readInto own far count xs buffer .answer) (readRefused own far count xs buffer)
 
 pub readTaken : (own far count : ℕ) (xs buffer : List ℕ) → (readInto own far count xs buffer .answer ≡ 0) ↔ Clear (readerRules own far count xs (length buffer))
-readTaken = intoTaken
+readTaken own far count xs buffer = accepted (readerRules own far count xs (length buffer)) (readInto own far count xs buffer .answer) (readRefused own far count xs buffer) tt
 
 -- the order for the writer: 1, 2, 9, 3, 10, 11
 abbrev writerRules : (own far count : ℕ) → Said → (room : ℕ) → List Rule
@@ -201,15 +215,19 @@ writerRules own far count m room =
     ∷ refuse 11 (ltb room (length (octetsOf own far m)))
     ∷ []
 
+writeByLetter : (own far count : ℕ) (m : Said) (room : ℕ) → writeRules own far count m room ≡ writerRules own far count m room
+writeByLetter own far count m room = alike (writeRules own far count m room) (writerRules own far count m room)
+    (refl, refl, (refl, refl, (refl, refl, (refl, refl, (refl, ap (λ (b : Bool). b && badAddress (m .address)) (signalsOfIam (m .heading)), (refl, refl, tt))))))
+
 pub writeRefused : (own far count : ℕ) (m : Said) (buffer : List ℕ) → writeFrom own far count m buffer .answer % 256 ≡ firstOf (writerRules own far count m (length buffer))
-writeRefused = fromRefusal
+writeRefused own far count m buffer = fromRefusal own far count m buffer ∙ ap firstOf (writeByLetter own far count m (length buffer))
 
 pub writeGiven : (own far count : ℕ) (m : Said) (buffer : List ℕ) (n : ℕ)
     → (writeFrom own far count m buffer .answer % 256 ≡ suc n) ↔ Given (suc n) (writerRules own far count m (length buffer))
-writeGiven = fromGiven
+writeGiven own far count m buffer = answered (writerRules own far count m (length buffer)) (writeFrom own far count m buffer .answer % 256) (writeRefused own far count m buffer)
 
 pub writeTaken : (own far count : ℕ) (m : Said) (buffer : List ℕ) → (writeFrom own far count m buffer .answer % 256 ≡ 0) ↔ Clear (writerRules own far count m (length buffer))
-writeTaken = fromTaken
+writeTaken own far count m buffer = accepted (writerRules own far count m (length buffer)) (writeFrom own far count m buffer .answer % 256) (writeRefused own far count m buffer) tt
 
 -- a refusal leaves the buffer as it was
 pub readKeeps : (own far count : ℕ) (xs buffer : List ℕ) → (readInto own far count xs buffer .answer ≡ 0 → ⊥) → readInto own far count xs buffer .buffer ≡ buffer

@@ -38,7 +38,7 @@ use Rattle.select.specs.First.{some}
 use Rattle.select.specs.Selection.{qualifies, selectIn}
 use Rattle.select.proofs.First.{someAt, noneAt}
 use Rattle.select.proofs.Laws as choices
-use Rattle.inverse.proofs.Refusals.{answered as givenExactly}
+use Rattle.circuit.proofs.Refusals.{answered as givenExactly}
 use Rattle.codes.specs.declared.Named.the-variants.{Known}
 use Rattle.reader.specs.Reading.{reading}
 use Rattle.ends.specs.Ends.{End, end, EndsCome}
