@@ -2,7 +2,7 @@
 -- different contents give different octets; lengths fit.
 -- Assumes nothing.
 use mathlib.Core.Path.{_≡_, refl, sym, ap, ap₂, _∙_, subst, fun-ext}
-use mathlib.Core.Bool.{Bool, true, false, cond, not, _&&_, _||_}
+use mathlib.Core.Bool.{Bool, true, false, cond, not, _||_}
 use mathlib.Core.List.{List, [], _∷_, _++_, append-assoc}
 use Prim.Native.Nat.{ℕ, zero, suc, _+_, _*_, _-_, _/_, _%_, _^_, _<_, _≤_}
 use native.Mathlib.Nat.{lt-of-lt-of-le, zero-div, pow-suc, pow-succ', mul-assoc, mul-zero, mul-suc, zero-add, add-assoc, mod-lt, div-div-eq-div-mul, mul-div-cancel-left, add-mul-div-left, add-mul-mod-self-left, mod-eq-of-lt, div-eq-of-lt, mul-le-mul-left}
@@ -15,7 +15,7 @@ use lib.ListN.{length, getD, replicate, replicate-append-replicate}
 use Rattle.circuit.proofs.Every.{left, right}
 use Rattle.words.specs.Octets.{lowFirst, numberOf}
 use Rattle.words.proofs.Octets.{numberBack, length-lowFirst}
-use Rattle.formats.specs.Format.{Name, DPC, OPC, CIC, HEADING, ACM, CATEGORY, INDICATORS, COUNT, Field, field, spare, Behind, Format, Content, each, many, bits, octetsFor, put, putEach, numberFrom, octetsFrom, index, same, get, above, getEach, contentOf, contentIn, most, Fits, has, once, saying, only, clearedBy}
+use Rattle.formats.specs.Format.{Name, DPC, OPC, CIC, HEADING, ACM, CATEGORY, INDICATORS, COUNT, Field, field, spare, Format, Content, each, many, bits, octetsFor, put, putEach, numberFrom, octetsFrom, index, same, get, above, getEach, contentOf, contentIn, most, Fits, has, once, saying, only, clearedBy}
 
 -- LENGTHS
 

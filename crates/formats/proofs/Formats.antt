@@ -2,12 +2,64 @@
 -- Assumes nothing.
 use mathlib.Core.Path.{_≡_, refl, sym, ap, _∙_, subst}
 use mathlib.Core.Bool.{Bool, true, false, cond, not, _&&_}
-use Prim.Native.Nat.{ℕ, _+_, _/_}
+use mathlib.Core.List.{List, [], _∷_}
+use Prim.Native.Nat.{ℕ, _+_}
 use native.Mathlib.Omega.{arith}
 use borrow.Author.Tests.{eqb-true}
 use lib.Dec.{T, eqb}
-use Rattle.formats.specs.Format.{Format, Behind, nothing, addressSignals, ACM, CATEGORY, INDICATORS, COUNT, octetsFor, most, once}
-use Rattle.formats.specs.Messages.{acmFormat, iamFormat, noFields, ownFormats, amongOwn, headed, formatOf, signalsBehind, hasSignals, fixedLength, isIam, isAcm, half}
+use Rattle.circuit.proofs.Every.{left, right, isTrue, alike, alikeSame}
+use Rattle.formats.specs.Format.{Format, ACM, CATEGORY, INDICATORS, COUNT, octetsFor, most, once}
+use Rattle.formats.specs.Messages.{acmFormat, iamFormat, Own, noFields, ownFormats, amongOwn, headed, formatOf, signalsBehind, hasSignals, fixedLength, isIam, isAcm, half}
+
+-- ONE TEST OVER ALL OF THEM
+
+abbrev everyOwn : (ℕ → Format → Bool) → List Own → Bool
+everyOwn P [] = true
+everyOwn P (o ∷ os) = P (o .heading) (o .format) && everyOwn P os
+
+-- a heading that none of them has
+abbrev Other : ℕ → List Own → Type 0
+Other h [] = Unit {0}
+Other h (o ∷ os) = (eqb h (o .heading) ≡ false) × Other h os
+
+-- what holds of every one, and of a message that ends with its heading, holds of what any heading has
+byHeading : (P : ℕ → Format → Bool) (os : List Own) → T (everyOwn P os) → (h : ℕ) → (Other h os → T (P h noFields)) → T (P h (amongOwn h os))
+byHeading P [] t h other = other tt
+byHeading P (o ∷ os) t h other = go (eqb h (o .heading)) refl (byHeading P os (right (P (o .heading) (o .format)) _ t) h)
+  where
+    go : (b : Bool) → eqb h (o .heading) ≡ b → ((Other h os → T (P h noFields)) → T (P h (amongOwn h os))) → T (P h (cond (eqb h (o .heading)) (o .format) (amongOwn h os)))
+    go true e more =
+        subst (λ (b : Bool). T (P h (cond b (o .format) (amongOwn h os)))) (sym e)
+        (subst (λ (k : ℕ). T (P k (o .format))) (sym (eqb-true h (o .heading) e)) (left (P (o .heading) (o .format)) (everyOwn P os) t))
+    go false e more = subst (λ (b : Bool). T (P h (cond b (o .format) (amongOwn h os)))) (sym e) (more (λ others. other (e, others)))
+
+same : (a b : ℕ) → T (eqb a b) → a ≡ b
+same a b t = eqb-true a b (isTrue (eqb a b) t)
+
+module _ (h : ℕ) where
+  -- no field stands twice
+  pub onceEach : T (once (formatOf h .fields))
+  onceEach = byHeading (λ h f. once (headed f .fields)) ownFormats tt h (λ other. tt)
+
+  -- an IAM alone has address signals
+  pub signalsOfIam : hasSignals h ≡ isIam h
+  signalsOfIam = alikeSame _ _ (byHeading (λ h f. alike (signalsBehind (f .behind)) (isIam h)) ownFormats tt h (λ other. subst (λ (b : Bool). T (alike false b)) (sym (other .0)) tt))
+
+  -- the most that the fields may be
+  pub acmMost : most (formatOf h .fields) ACM ≡ cond (isAcm h) 63 0
+  acmMost = same _ _ (byHeading (λ h f. eqb (most (headed f .fields) ACM) (cond (isAcm h) 63 0)) ownFormats tt h (λ other. subst (λ (b : Bool). T (eqb 0 (cond b 63 0))) (sym (other .1 .0)) tt))
+
+  pub categoryMost : most (formatOf h .fields) CATEGORY ≡ cond (isIam h) 63 0
+  categoryMost = same _ _ (byHeading (λ h f. eqb (most (headed f .fields) CATEGORY) (cond (isIam h) 63 0)) ownFormats tt h (λ other. subst (λ (b : Bool). T (eqb 0 (cond b 63 0))) (sym (other .0)) tt))
+
+  pub indicatorsMost : most (formatOf h .fields) INDICATORS ≡ cond (isIam h) 2047 0
+  indicatorsMost = same _ _ (byHeading (λ h f. eqb (most (headed f .fields) INDICATORS) (cond (isIam h) 2047 0)) ownFormats tt h (λ other. subst (λ (b : Bool). T (eqb 0 (cond b 2047 0))) (sym (other .0)) tt))
+
+  -- and the count, where there are address signals to be counted
+  pub countMost : most (formatOf h .fields) COUNT ≡ cond (hasSignals h) 15 0
+  countMost = same _ _ (byHeading (λ h f. eqb (most (headed f .fields) COUNT) (cond (signalsBehind (f .behind)) 15 0)) ownFormats tt h (λ other. tt))
+
+-- ONE BY ONE
 
 abbrev byTests : (iam acm : Bool) → Format
 byTests a b = cond a iamFormat (cond b acmFormat noFields)
@@ -22,78 +74,6 @@ module _ (h : ℕ) where
 
     pub neither : isAcm h ≡ false → amongOwn h ownFormats ≡ noFields
     neither e = ap (λ (a : Bool). byTests a (isAcm h)) other ∙ ap (byTests false) e
-
-  -- no field stands twice
-  pub onceEach : T (once (formatOf h .fields))
-  onceEach = go (isIam h) (isAcm h)
-    where
-      go : (a b : Bool) → T (once (headed (byTests a b) .fields))
-      go true b = tt
-      go false true = tt
-      go false false = tt
-
-  -- an IAM alone has address signals
-  pub signalsOfIam : hasSignals h ≡ isIam h
-  signalsOfIam = go (isIam h) (isAcm h)
-    where
-      go : (a b : Bool) → signalsBehind (byTests a b .behind) ≡ a
-      go true b = refl
-      go false true = refl
-      go false false = refl
-
-  pub fixedLengths : fixedLength h ≡ cond (isIam h) 9 (cond (isAcm h) 7 6)
-  fixedLengths = go (isIam h) (isAcm h)
-    where
-      go : (a b : Bool) → octetsFor (headed (byTests a b)) 0 ≡ cond a 9 (cond b 7 6)
-      go true b = refl
-      go false true = refl
-      go false false = refl
-
-  -- the most that the fields may be
-  pub acmMost : most (formatOf h .fields) ACM ≡ cond (isAcm h) 63 0
-  acmMost = byIam (isIam h) refl
-    where
-      byAcm : (b : Bool) → most (headed (byTests false b) .fields) ACM ≡ cond b 63 0
-      byAcm true = refl
-      byAcm false = refl
-
-      byIam : (a : Bool) → isIam h ≡ a → most (formatOf h .fields) ACM ≡ cond (isAcm h) 63 0
-      byIam true e = subst (λ (k : ℕ). most (formatOf k .fields) ACM ≡ cond (isAcm k) 63 0) (sym (eqb-true h 0x11 e)) refl
-      byIam false e = ap (λ (a : Bool). most (headed (byTests a (isAcm h)) .fields) ACM) e ∙ byAcm (isAcm h)
-
-  pub categoryMost : most (formatOf h .fields) CATEGORY ≡ cond (isIam h) 63 0
-  categoryMost = go (isIam h) (isAcm h)
-    where
-      go : (a b : Bool) → most (headed (byTests a b) .fields) CATEGORY ≡ cond a 63 0
-      go true b = refl
-      go false true = refl
-      go false false = refl
-
-  pub indicatorsMost : most (formatOf h .fields) INDICATORS ≡ cond (isIam h) 2047 0
-  indicatorsMost = go (isIam h) (isAcm h)
-    where
-      go : (a b : Bool) → most (headed (byTests a b) .fields) INDICATORS ≡ cond a 2047 0
-      go true b = refl
-      go false true = refl
-      go false false = refl
-
-  -- and the count, where there are address signals to be counted
-  pub countMost : most (formatOf h .fields) COUNT ≡ cond (hasSignals h) 15 0
-  countMost = go (isIam h) (isAcm h)
-    where
-      go : (a b : Bool) → most (headed (byTests a b) .fields) COUNT ≡ cond (signalsBehind (byTests a b .behind)) 15 0
-      go true b = refl
-      go false true = refl
-      go false false = refl
-
--- what lies behind the fields
-pub someBehind : (b : Behind) → signalsBehind b ≡ true → b ≡ addressSignals
-someBehind nothing e = absurd (subst T (sym e) tt)
-someBehind addressSignals e = refl
-
-pub noneBehind : (b : Behind) → signalsBehind b ≡ false → b ≡ nothing
-noneBehind nothing e = refl
-noneBehind addressSignals e = absurd (subst T e tt)
 
 -- so many address signals take up half as many octets, rounded up
 pub iamOctets : (n : ℕ) → octetsFor (headed iamFormat) n ≡ 9 + half n
@@ -115,3 +95,7 @@ countedLength h len n = ap (λ (k : ℕ). hasSignals h && not (eqb len k)) (octe
     go : (a : Bool) → (a && not (eqb len (cond a (9 + half n) (cond (isAcm h) 7 6)))) ≡ (a && not (eqb len (9 + half n)))
     go true = refl
     go false = refl
+
+-- and without any address signals
+pub fixedLengths : (h : ℕ) → fixedLength h ≡ cond (isIam h) 9 (cond (isAcm h) 7 6)
+fixedLengths h = octetsByHeading h 0

@@ -5,18 +5,17 @@ use mathlib.Core.Bool.{Bool, true, false, cond}
 use mathlib.Core.List.{List, [], _∷_}
 use Prim.Native.Nat.{ℕ, _/_, _%_, _^_, _<_, _≤_}
 use borrow.Author.Tests.{ne-eqb, eqb-true}
-use lib.Dec.{T, eqb, lit<, lit≤}
+use lib.Dec.{T, eqb, lit<}
 use Rattle.circuit.specs.declared.Failure.{Failure}
 use Rattle.circuit.specs.declared.Failure.the-variants.{Sec, Cgc, Nnc, Adi, Cfl, Ssb, Unn, Los, Sst}
 use Rattle.circuit.specs.declared.Signal.{Signal}
 use Rattle.circuit.specs.declared.Signal.the-variants.{Iam, Acm, Anc, Ann, Cbk, Clf, Ran, Rlg, Blo, Bla, Ubl, Uba, Rsc, Fail}
 use Rattle.codes.specs.declared.NamedFailure.the-variants.{IsFailure}
-use Rattle.codes.specs.declared.Named.{Named}
-use Rattle.codes.specs.declared.Named.the-variants.{Known, Unknown}
-use Rattle.codes.specs.Headings.{failureHeading, headingOf, amongFailures, failing, among, signalOf}
+use Rattle.codes.specs.declared.Named.the-variants.{Known}
+use Rattle.codes.specs.Headings.{failureHeading, headingOf, amongFailures, failing, among}
 use Rattle.circuit.proofs.Every.{atBelow, alike, alikeSame}
 use Rattle.formats.specs.Way.{groupOf}
-use Rattle.formats.specs.Messages.{isKnown, listed, isIam, isAcm, fixedLength}
+use Rattle.formats.specs.Messages.{isKnown, listed, fixedLength}
 use native.Mathlib.Omega.{arith}
 
 pub six : (h : ℕ) → (h ≡ 0x11 → ⊥) → (h ≡ 0x14 → ⊥) → listed h ≡ true → 6 ≡ cond (listed h) (fixedLength h) 0

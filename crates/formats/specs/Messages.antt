@@ -1,10 +1,10 @@
 -- The formats of the messages (Q.723; docs/RULES.md, "Messages on the link"): the label, the heading, and what stands behind the heading. A message
 -- with fields of its own is a format and a line of the list below.
 -- Assumes nothing.
-use mathlib.Core.Bool.{Bool, true, false, cond, not}
+use mathlib.Core.Bool.{Bool, true, false, cond}
 use mathlib.Core.List.{List, [], _∷_, _++_}
 use Prim.Native.Nat.{ℕ, _+_, _/_}
-use lib.Dec.{eqb, ltb}
+use lib.Dec.{eqb}
 use Rattle.codes.specs.declared.Named.{Named}
 use Rattle.codes.specs.declared.Named.the-variants.{Known, Unknown}
 use Rattle.codes.specs.Headings.{signalOf}

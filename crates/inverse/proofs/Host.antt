@@ -1,19 +1,17 @@
 -- What a host in C gets from `tup_read` and `tup_write`: a refusal leaves the lent buffer as it was; else the message or its fields stand at the
 -- buffer's start, the fields come back from their octets, and what lies beyond keeps its contents.
 -- Assumes nothing.
-use mathlib.Core.Path.{_≡_, refl, sym, ap, _∙_, subst}
-use mathlib.Core.Bool.{Bool, true, false, cond, _&&_}
+use mathlib.Core.Path.{_≡_, refl, sym, ap, _∙_}
+use mathlib.Core.Bool.{Bool, true, false, cond}
 use mathlib.Core.List.{List}
-use Prim.Native.Nat.{ℕ, zero, suc, _-_, _/_, _%_, _^_, _<_, _≤_}
+use Prim.Native.Nat.{ℕ, zero, suc, _/_, _%_, _^_, _<_, _≤_}
 use native.Mathlib.Nat.{le-trans}
 use native.Mathlib.Omega.{arith}
-use borrow.Author.Tests.{ltb-false}
 use lib.Dec.{ltb, lit≤}
 use lib.ListN.{length, take, drop, length-append, length-drop}
 use lib.Seq.{take-at, drop-at, take-append-seam, drop-append-seam}
 use Rattle.circuit.specs.Groups.{badGroup}
-use Rattle.circuit.specs.Refusals.{firstOf, Clear}
-use Rattle.circuit.proofs.Refusals.{clear}
+use Rattle.circuit.specs.Refusals.{firstOf}
 use Rattle.words.specs.Octets.{Octets, over}
 use Rattle.words.proofs.Octets.{numberBack}
 use Rattle.reader.specs.declared.Fields.{Fields}

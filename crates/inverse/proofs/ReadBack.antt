@@ -4,7 +4,7 @@
 use mathlib.Core.Path.{_≡_, refl, sym, ap, _∙_, subst}
 use mathlib.Core.Bool.{Bool, true, false, cond, not, _&&_, _||_}
 use mathlib.Core.List.{List}
-use Prim.Native.Nat.{ℕ, _+_, _*_, _/_, _^_, _<_, _≤_}
+use Prim.Native.Nat.{ℕ, _^_, _<_, _≤_}
 use native.Mathlib.Omega.{arith}
 use borrow.Author.Tests.{ltb-false, le-ltb, lt-leb, eqb-false, eq-eqb, ne-eqb, not-false}
 use lib.Dec.{T, eqb, ltb}
@@ -17,7 +17,7 @@ use Rattle.formats.specs.Format.{Name, DPC, OPC, CIC, HEADING, ACM, CATEGORY, I
 use Rattle.formats.specs.Messages.{formatOf, signalsBehind, hasSignals, listed}
 use Rattle.formats.specs.Octets.{badCodes, aboveFifteen}
 use Rattle.formats.proofs.Format as format
-use Rattle.formats.proofs.Formats.{onceEach, countMost, someBehind, noneBehind}
+use Rattle.formats.proofs.Formats.{onceEach, countMost}
 use Rattle.formats.proofs.Lengths.{octet}
 use Rattle.reader.specs.declared.Fields.{Fields}
 use Rattle.words.specs.Octets.{over}

@@ -4,24 +4,23 @@
 use mathlib.Core.Path.{_≡_, refl, sym, ap, _∙_, subst, fun-ext}
 use mathlib.Core.Bool.{Bool, true, false, cond, not, _&&_, _||_}
 use mathlib.Core.List.{List, [], _∷_}
-use Prim.Native.Nat.{ℕ, zero, suc, _+_, _*_, _/_, _^_, _<_, _≤_}
+use Prim.Native.Nat.{ℕ, suc, _^_, _<_, _≤_}
 use native.Mathlib.Omega.{arith}
-use borrow.Author.Tests.{le-ltb, ltb-false, eqb-true, eqb-false, ne-eqb, not-false}
+use borrow.Author.Tests.{le-ltb, eqb-true, eqb-false, ne-eqb, not-false}
 use lib.Dec.{T, eqb, ltb}
-use lib.ListN.{length, getD, take, drop}
+use lib.ListN.{length, getD, drop}
 use lib.Seq.{take-at}
 use Rattle.circuit.specs.Refusals.{firstOf, Clear}
 use Rattle.circuit.proofs.Groups.{turned, recordsFit}
 use Rattle.circuit.proofs.Refusals.{clear, noneGiven}
-use Rattle.formats.specs.Format.{Name, DPC, OPC, CIC, HEADING, ACM, CATEGORY, INDICATORS, COUNT, Behind, nothing, addressSignals, Format, Content, each, many, octetsFor, octetsFrom, contentIn, get, most, Fits, clearedBy}
-use Rattle.formats.specs.Messages.{formatOf, signalsBehind, hasSignals, listed}
+use Rattle.formats.specs.Format.{Name, DPC, OPC, CIC, HEADING, ACM, CATEGORY, INDICATORS, COUNT, Behind, nothing, addressSignals, Format, Content, each, many, octetsFor, octetsFrom, contentIn, most, Fits}
+use Rattle.formats.specs.Messages.{formatOf, signalsBehind, hasSignals}
 use Rattle.formats.specs.Octets.{badCodes, aboveFifteen}
 use Rattle.formats.proofs.Format as format
 use Rattle.formats.proofs.Formats.{onceEach, countMost}
-use Rattle.words.specs.Octets.{numberOf, lowFirst, over}
+use Rattle.words.specs.Octets.{numberOf}
 use Rattle.words.proofs.Octets.{length-lowFirst}
-use Rattle.reader.specs.declared.Fields.{Fields}
-use Rattle.reader.specs.Places.{dpcIn, opcIn, cicIn, headingIn, fieldBy, signalsBy}
+use Rattle.reader.specs.Places.{dpcIn, opcIn, cicIn, headingIn, fieldBy}
 use Rattle.reader.specs.Reading.{bodyRules, readRules, noCodes, fieldsIn, unless, fieldsOf}
 use Rattle.writer.specs.Writing.{Said, said, tooLarge, badAddress, contentOf, octetsOf, writeRules, putting, writing}
 use Rattle.inverse.specs.Octets.{cleared}

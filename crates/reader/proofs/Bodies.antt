@@ -3,7 +3,7 @@
 use mathlib.Core.Path.{_≡_, refl, sym, ap, _∙_}
 use mathlib.Core.Bool.{Bool, true, false, cond, not, _&&_, _||_}
 use mathlib.Core.List.{List, [], _∷_}
-use Prim.Native.Nat.{ℕ, _+_, _*_, _-_, _/_, _%_, _^_, _<_, _≤_}
+use Prim.Native.Nat.{ℕ, _+_, _*_, _/_, _%_, _^_, _<_, _≤_}
 use native.Mathlib.Omega.{arith}
 use borrow.Author.Tests.{lt-ltb, le-ltb, le-leb, lt-leb, eq-eqb, ne-eqb}
 use lib.Dec.{eqb, ltb, leb}
@@ -13,8 +13,8 @@ use Rattle.circuit.specs.Groups.{badGroup}
 use Rattle.circuit.specs.declared.Cic.{Cic}
 use Rattle.reader.specs.declared.Fields.{Fields}
 use Rattle.circuit.specs.Refusals.{refuse, firstOf}
-use Rattle.formats.specs.Format.{Format, octetsFor, ACM, CATEGORY, INDICATORS, COUNT, above, getEach}
-use Rattle.formats.specs.Messages.{iamFormat, amongOwn, ownFormats, headed, formatOf, hasSignals, fixedLength, listed, isIam, isAcm, half}
+use Rattle.formats.specs.Format.{Format, octetsFor, CATEGORY, INDICATORS, COUNT, above, getEach}
+use Rattle.formats.specs.Messages.{iamFormat, amongOwn, ownFormats, headed, formatOf, hasSignals, fixedLength, listed, isIam, half}
 use Rattle.formats.specs.Octets.{badCodes}
 use Rattle.formats.specs.Way.{halves}
 use Rattle.formats.proofs.Formats.{anAcm, neither, signalsOfIam, iamOctets}
