@@ -13,7 +13,7 @@ use Rattle.formats.specs.Messages.{formatOf}
 use Rattle.formats.proofs.Format as format
 use Rattle.formats.proofs.Formats.{octetsByHeading}
 use Rattle.reader.specs.Reading.{fieldsOf}
-use Rattle.writer.specs.Writing.{Said, contentOf, octetsOf, writeRules, putting, Outcome, writing}
+use Rattle.writer.specs.Writing.{Said, contentSaid, octetsOf, writeRules, putting, Outcome, writing}
 use Rattle.inverse.specs.Octets.{cleared}
 use Rattle.inverse.specs.Said.{fieldsSaid, saidOf, lengthOf}
 use Rattle.inverse.proofs.Refusals.{writeRefusal}
@@ -52,7 +52,7 @@ different own far records records' m m' buffer buffer' ok ok' d e =
 
 pub octetsLong : (own far : ℕ) (m : Said) → length (octetsOf own far m) ≡ lengthOf m
 unfolding octetsOf
-octetsLong own far m = format.lengthFits (formatOf (m .heading)) (contentOf own far m) ∙ octetsByHeading (m .heading) (length (m .address))
+octetsLong own far m = format.lengthFits (formatOf (m .heading)) (contentSaid own far m) ∙ octetsByHeading (m .heading) (length (m .address))
 
 -- Every length that the writer can answer fits the heading: 6, an ACM 7, an IAM 9 and half the count rounded up.
 pub lengthFits : (own far records : ℕ) (m : Said) (buffer : List ℕ) → writing own far records m buffer .answer .refusal ≡ 0

@@ -23,7 +23,7 @@ use Rattle.reader.specs.declared.Fields.{Fields}
 use Rattle.words.specs.Octets.{over}
 use Rattle.reader.specs.Places.{cicIn, headingIn, fieldBy, signalsBy}
 use Rattle.reader.specs.Reading.{elsewhere, unfitBy, formatRules, bodyRules, readRules, noCodes, fieldsIn, unless, fieldsOf}
-use Rattle.writer.specs.Writing.{Said, tooLarge, badAddress, contentOf, octetsOf, writeRules}
+use Rattle.writer.specs.Writing.{Said, tooLarge, badAddress, contentSaid, octetsOf, writeRules}
 use Rattle.writer.proofs.Pairs.{at-most}
 use Rattle.writer.proofs.Tests.{fitting, few}
 use Rattle.inverse.specs.Said.{fieldsSaid}
@@ -89,7 +89,7 @@ module _ (own far records : ℕ) (m : Said) (room : ℕ) (ok : firstOf (writeRul
   f = formatOf (m .heading)
 
   abbrev c : Content
-  c = contentOf own far m
+  c = contentSaid own far m
 
   saysFit : (n : Name) → c .says n ≤ most (f .fields) n
   saysFit DPC = let h = inRange own far records (taking .0) .1 in omega arith

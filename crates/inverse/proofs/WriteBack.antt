@@ -22,7 +22,7 @@ use Rattle.words.specs.Octets.{numberOf}
 use Rattle.words.proofs.Octets.{length-lowFirst}
 use Rattle.reader.specs.Places.{dpcIn, opcIn, cicIn, headingIn, fieldBy}
 use Rattle.reader.specs.Reading.{bodyRules, readRules, noCodes, fieldsIn, unless, fieldsOf}
-use Rattle.writer.specs.Writing.{Said, said, tooLarge, badAddress, contentOf, octetsOf, writeRules, putting, writing}
+use Rattle.writer.specs.Writing.{Said, said, tooLarge, badAddress, contentSaid, octetsOf, writeRules, putting, writing}
 use Rattle.inverse.specs.Octets.{cleared}
 use Rattle.inverse.specs.Said.{saidOf}
 use Rattle.inverse.proofs.Refusals.{readRefusal}
@@ -120,7 +120,7 @@ module _ (own far records : ℕ) (xs : List ℕ) (ok : fieldsOf own far records 
       ∙ ap (said (cicIn xs) (headingIn xs) (fieldBy f ACM xs) (fieldBy f CATEGORY xs) (fieldBy f INDICATORS xs))
       (take-at (c .signals) (drop (length (c .signals)) noCodes) (fieldBy f COUNT xs) (sym counted))
 
-  saysAgain : (n : Name) → contentOf far own again .says n ≡ c .says n
+  saysAgain : (n : Name) → contentSaid far own again .says n ≡ c .says n
   saysAgain DPC = sym (codes .0)
   saysAgain OPC = sym (codes .1)
   saysAgain CIC = refl
@@ -130,7 +130,7 @@ module _ (own far records : ℕ) (xs : List ℕ) (ok : fieldsOf own far records 
   saysAgain INDICATORS = refl
   saysAgain COUNT = sym counted
 
-  contentAgain : contentOf far own again ≡ c
+  contentAgain : contentSaid far own again ≡ c
   contentAgain = λ i. record { says = fun-ext saysAgain i; signals = c .signals }
 
   octetsAgain : octetsOf far own again ≡ cleared xs

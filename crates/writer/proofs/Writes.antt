@@ -21,7 +21,7 @@ use Rattle.formats.proofs.Formats.{anIam, anAcm, neither, signalsOfIam, fixedLe
 use Rattle.formats.proofs.Lengths.{octet}
 use Rattle.formats.proofs.Places.{headPut, acmPut, nothingPut, iamPut}
 use Rattle.words.specs.Octets.{lowFirst, over}
-use Rattle.writer.specs.Writing.{Said, tooLarge, badAddress, contentOf, octetsOf, Outcome, unwritten, putting, writing}
+use Rattle.writer.specs.Writing.{Said, tooLarge, badAddress, contentSaid, octetsOf, Outcome, unwritten, putting, writing}
 use Rattle.writer.specs.Way.{labelOf, plainOctets, acmOctets, iamHead, iamOctets, shortOctets, iamWriting, shortWriting}
 use Rattle.writer.proofs.Pairs.{length-pairs, at-most}
 use Rattle.writer.proofs.Tests.{fitting, fitting-iam, acm-fits, few}
@@ -102,9 +102,9 @@ module _ (own far records : ℕ) (m : Said) (buffer : List ℕ) where
           group = inRange own far records e₀
 
           -- label and heading, and what lies behind them
-          behindHead : (f : Format) → amongOwn (m .heading) ownFormats ≡ f → octetsOf own far m ≡ lowFirst 5 (labelOf own far (m .cic)) ++ (m .heading ∷ octetsFrom f (contentOf own far m))
+          behindHead : (f : Format) → amongOwn (m .heading) ownFormats ≡ f → octetsOf own far m ≡ lowFirst 5 (labelOf own far (m .cic)) ++ (m .heading ∷ octetsFrom f (contentSaid own far m))
           unfolding octetsOf
-          behindHead f e = ap (λ (f : Format). octetsFrom (headed f) (contentOf own far m)) e ∙ headPut f (contentOf own far m) (group .1) (group .0) (omega arith) (octet (m .heading) l)
+          behindHead f e = ap (λ (f : Format). octetsFrom (headed f) (contentSaid own far m)) e ∙ headPut f (contentSaid own far m) (group .1) (group .0) (omega arith) (octet (m .heading) l)
 
           abbrev last-tests : List ℕ → Bool → Outcome
           last-tests xs b = putting (firstOf (refuse 10 b ∷ refuse 11 (ltb (length buffer) (length xs)) ∷ [])) xs buffer
@@ -119,8 +119,8 @@ module _ (own far records : ℕ) (m : Said) (buffer : List ℕ) where
                 let d = fits .1 in
                 let n = few (m .address) ordered in
                 behindHead _ (anIam (m .heading) (eq-eqb (m .heading) 0x11 i))
-                ∙ ap (λ (h : ℕ). lowFirst 5 (labelOf own far (m .cic)) ++ (h ∷ octetsFrom iamFormat (contentOf own far m))) i
-                ∙ ap (λ (r : List ℕ). lowFirst 5 (labelOf own far (m .cic)) ++ (0x11 ∷ r)) (iamPut (contentOf own far m) (omega arith) (omega arith) (omega arith) (λ i h. at-most (m .address) i (fits .2) h))
+                ∙ ap (λ (h : ℕ). lowFirst 5 (labelOf own far (m .cic)) ++ (h ∷ octetsFrom iamFormat (contentSaid own far m))) i
+                ∙ ap (λ (r : List ℕ). lowFirst 5 (labelOf own far (m .cic)) ++ (0x11 ∷ r)) (iamPut (contentSaid own far m) (omega arith) (omega arith) (omega arith) (λ i h. at-most (m .address) i (fits .2) h))
 
             pub an-iam : writing own far records m buffer ≡ iamWriting (labelOf own far (m .cic)) (m .category) (m .indicators) (m .address) buffer
             unfolding iamWriting
@@ -145,12 +145,12 @@ module _ (own far records : ℕ) (m : Said) (buffer : List ℕ) where
                     let h : m .heading ≡ 0x14 = eqb-true (m .heading) 0x14 e in
                     let d = acm-fits (m .heading) (m .acm) h (fitting m f .0) in
                     behindHead _ (anAcm (m .heading) other e)
-                    ∙ ap (λ (r : List ℕ). lowFirst 5 (labelOf own far (m .cic)) ++ (m .heading ∷ r)) (acmPut (contentOf own far m) (omega arith))
+                    ∙ ap (λ (r : List ℕ). lowFirst 5 (labelOf own far (m .cic)) ++ (m .heading ∷ r)) (acmPut (contentSaid own far m) (omega arith))
                     ∙ ap (λ (h : ℕ). lowFirst 5 (labelOf own far (m .cic)) ++ (h ∷ m .acm ∷ [])) h
                     ∙ sym (ap (λ (b : Bool). cond b (acmOctets (labelOf own far (m .cic)) (m .acm)) (plainOctets (labelOf own far (m .cic)) (m .heading))) e)
                 go false e =
                     behindHead _ (neither (m .heading) other e)
-                    ∙ ap (λ (r : List ℕ). lowFirst 5 (labelOf own far (m .cic)) ++ (m .heading ∷ r)) (nothingPut (contentOf own far m))
+                    ∙ ap (λ (r : List ℕ). lowFirst 5 (labelOf own far (m .cic)) ++ (m .heading ∷ r)) (nothingPut (contentSaid own far m))
                     ∙ sym (ap (λ (b : Bool). cond b (acmOctets (labelOf own far (m .cic)) (m .acm)) (plainOctets (labelOf own far (m .cic)) (m .heading))) e)
 
             pub no-iam : writing own far records m buffer ≡ shortWriting (labelOf own far (m .cic)) (m .heading) (m .acm) buffer

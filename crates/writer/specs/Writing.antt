@@ -51,12 +51,12 @@ saying own far m CATEGORY = m .category
 saying own far m INDICATORS = m .indicators
 saying own far m COUNT = length (m .address)
 
-abbrev pub contentOf : (own far : ℕ) → Said → Content
-contentOf own far m = record { says = saying own far m; signals = m .address }
+abbrev pub contentSaid : (own far : ℕ) → Said → Content
+contentSaid own far m = record { says = saying own far m; signals = m .address }
 
 -- the octets of a message, by its format
 unfoldable pub octetsOf : (own far : ℕ) → Said → List ℕ
-octetsOf own far m = octetsFrom (formatOf (m .heading)) (contentOf own far m)
+octetsOf own far m = octetsFrom (formatOf (m .heading)) (contentSaid own far m)
 
 -- the writer's refusals, in order
 abbrev pub writeRules : ℕ → ℕ → ℕ → Said → ℕ → List Rule
