@@ -9,7 +9,7 @@ use borrow.Author.Tests.{eqb-true}
 use lib.Dec.{T, eqb}
 use Rattle.circuit.proofs.Every.{left, right, isTrue, alike, alikeSame}
 use Rattle.formats.specs.Format.{Format, ACM, CATEGORY, INDICATORS, COUNT, octetsFor, most, once}
-use Rattle.formats.specs.Messages.{acmFormat, iamFormat, Own, noFields, ownFormats, amongOwn, headed, formatOf, signalsBehind, hasSignals, fixedLength, isIam, isAcm, half}
+use Rattle.formats.specs.Messages.{acmFormat, iamFormat, iamHeading, acmHeading, Own, noFields, ownFormats, amongOwn, headed, formatOf, signalsBehind, hasSignals, fixedLength, isIam, isAcm, half}
 
 -- ONE TEST OVER ALL OF THEM
 
@@ -61,19 +61,19 @@ module _ (h : ℕ) where
 
 -- ONE BY ONE
 
-abbrev byTests : (iam acm : Bool) → Format
-byTests a b = cond a iamFormat (cond b acmFormat noFields)
+noneOf : (h : ℕ) (os : List Own) → Other h os → amongOwn h os ≡ noFields
+noneOf h [] other = refl
+noneOf h (o ∷ os) other = ap (λ (b : Bool). cond b (o .format) (amongOwn h os)) (other .0) ∙ noneOf h os (other .1)
 
 module _ (h : ℕ) where
   pub anIam : isIam h ≡ true → amongOwn h ownFormats ≡ iamFormat
-  anIam e = ap (λ (a : Bool). byTests a (isAcm h)) e
+  anIam e = ap (λ (k : ℕ). amongOwn k ownFormats) (eqb-true h iamHeading e)
 
-  module _ (other : isIam h ≡ false) where
-    pub anAcm : isAcm h ≡ true → amongOwn h ownFormats ≡ acmFormat
-    anAcm e = ap (λ (a : Bool). byTests a (isAcm h)) other ∙ ap (byTests false) e
+  pub anAcm : isAcm h ≡ true → amongOwn h ownFormats ≡ acmFormat
+  anAcm e = ap (λ (k : ℕ). amongOwn k ownFormats) (eqb-true h acmHeading e)
 
-    pub neither : isAcm h ≡ false → amongOwn h ownFormats ≡ noFields
-    neither e = ap (λ (a : Bool). byTests a (isAcm h)) other ∙ ap (byTests false) e
+  pub neither : isIam h ≡ false → isAcm h ≡ false → amongOwn h ownFormats ≡ noFields
+  neither i a = noneOf h ownFormats (i, (a, tt))
 
 -- so many address signals take up half as many octets, rounded up
 pub iamOctets : (n : ℕ) → octetsFor (headed iamFormat) n ≡ 9 + half n
@@ -81,21 +81,29 @@ iamOctets n = omega arith
 
 -- how long a message is: 6 octets, an ACM 7, an IAM 9 and half its count of address signals rounded up
 pub octetsByHeading : (h n : ℕ) → octetsFor (formatOf h) n ≡ cond (isIam h) (9 + half n) (cond (isAcm h) 7 6)
-octetsByHeading h n = go (isIam h) (isAcm h)
+octetsByHeading h n = byIam (isIam h) refl
   where
-    go : (a b : Bool) → octetsFor (headed (byTests a b)) n ≡ cond a (9 + half n) (cond b 7 6)
-    go true b = iamOctets n
-    go false true = omega arith
-    go false false = omega arith
+    having : (f : Format) → amongOwn h ownFormats ≡ f → octetsFor (formatOf h) n ≡ octetsFor (headed f) n
+    having f e = ap (λ (f : Format). octetsFor (headed f) n) e
 
--- a length that is not what the count asks for
-pub countedLength : (h len n : ℕ) → (hasSignals h && not (eqb len (octetsFor (formatOf h) n))) ≡ (isIam h && not (eqb len (9 + half n)))
-countedLength h len n = ap (λ (k : ℕ). hasSignals h && not (eqb len k)) (octetsByHeading h n) ∙ ap (λ (b : Bool). b && not (eqb len (cond (isIam h) (9 + half n) (cond (isAcm h) 7 6)))) (signalsOfIam h) ∙ go (isIam h)
-  where
-    go : (a : Bool) → (a && not (eqb len (cond a (9 + half n) (cond (isAcm h) 7 6)))) ≡ (a && not (eqb len (9 + half n)))
-    go true = refl
-    go false = refl
+    byAcm : isIam h ≡ false → (b : Bool) → isAcm h ≡ b → octetsFor (formatOf h) n ≡ cond b 7 6
+    byAcm i true a = having acmFormat (anAcm h a) ∙ omega arith
+    byAcm i false a = having noFields (neither h i a) ∙ omega arith
+
+    byIam : (b : Bool) → isIam h ≡ b → octetsFor (formatOf h) n ≡ cond b (9 + half n) (cond (isAcm h) 7 6)
+    byIam true i = having iamFormat (anIam h i) ∙ iamOctets n
+    byIam false i = byAcm i (isAcm h) refl
 
 -- and without any address signals
 pub fixedLengths : (h : ℕ) → fixedLength h ≡ cond (isIam h) 9 (cond (isAcm h) 7 6)
 fixedLengths h = octetsByHeading h 0
+
+-- a length that is not what the count asks for
+pub countedLength : (h len n : ℕ) → (hasSignals h && not (eqb len (octetsFor (formatOf h) n))) ≡ (isIam h && not (eqb len (9 + half n)))
+countedLength h len n =
+    ap (λ (b : Bool). b && not (eqb len (octetsFor (formatOf h) n))) (signalsOfIam h)
+    ∙ ap (λ (k : ℕ). isIam h && not (eqb len k)) (octetsByHeading h n) ∙ go (isIam h)
+  where
+    go : (a : Bool) → (a && not (eqb len (cond a (9 + half n) (cond (isAcm h) 7 6)))) ≡ (a && not (eqb len (9 + half n)))
+    go true = refl
+    go false = refl

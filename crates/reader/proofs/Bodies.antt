@@ -115,7 +115,7 @@ module _ (records h : ℕ) (xs : List ℕ) (octets : (i : ℕ) → getD xs i 0 <
         plainly f e = taken records h xs other known (n ∙ the-length h fixed is known) (rw k at r) ∙ ap (λ (f : Format). fieldsBy (headed f) h xs) e
 
         pub looked-acm : h ≡ 0x14 → bodyOf records h xs ≡ plainFields circuit h (getD xs 6 0 % 64)
-        looked-acm e = plainly _ (anAcm h other (eq-eqb h 0x14 e)) ∙ ap (plainFields (cicIn xs) h) (acmThere xs octets) ∙ ap (λ (v : ℕ). plainFields v h (getD xs 6 0 % 64)) (sym k)
+        looked-acm e = plainly _ (anAcm h (eq-eqb h 0x14 e)) ∙ ap (plainFields (cicIn xs) h) (acmThere xs octets) ∙ ap (λ (v : ℕ). plainFields v h (getD xs 6 0 % 64)) (sym k)
 
         pub looked-plain : (h ≡ 0x14 → ⊥) → bodyOf records h xs ≡ plainFields circuit h 0
         looked-plain e = plainly _ (neither h other (ne-eqb h 0x14 e)) ∙ ap (λ (v : ℕ). plainFields v h 0) (sym k)

@@ -144,7 +144,7 @@ module _ (own far records : ℕ) (m : Said) (buffer : List ℕ) where
                 go true e =
                     let h : m .heading ≡ 0x14 = eqb-true (m .heading) 0x14 e in
                     let d = acm-fits (m .heading) (m .acm) h (fitting m f .0) in
-                    behindHead _ (anAcm (m .heading) other e)
+                    behindHead _ (anAcm (m .heading) e)
                     ∙ ap (λ (r : List ℕ). lowFirst 5 (labelOf own far (m .cic)) ++ (m .heading ∷ r)) (acmPut (contentSaid own far m) (omega arith))
                     ∙ ap (λ (h : ℕ). lowFirst 5 (labelOf own far (m .cic)) ++ (h ∷ m .acm ∷ [])) h
                     ∙ sym (ap (λ (b : Bool). cond b (acmOctets (labelOf own far (m .cic)) (m .acm)) (plainOctets (labelOf own far (m .cic)) (m .heading))) e)
