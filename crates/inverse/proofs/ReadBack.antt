@@ -19,10 +19,8 @@ use Rattle.formats.specs.Octets.{badCodes, aboveFifteen}
 use Rattle.formats.proofs.Format as format
 use Rattle.formats.proofs.Formats.{onceEach, countMost}
 use Rattle.formats.proofs.Lengths.{octet}
-use Rattle.reader.specs.declared.Fields.{Fields}
-use Rattle.words.specs.Octets.{over}
-use Rattle.reader.specs.Places.{cicIn, headingIn, fieldBy, signalsBy}
-use Rattle.reader.specs.Reading.{elsewhere, unfitBy, formatRules, bodyRules, readRules, noCodes, fieldsIn, unless, fieldsOf}
+use Rattle.reader.specs.Places.{cicIn, headingIn}
+use Rattle.reader.specs.Reading.{elsewhere, unfitBy, formatRules, bodyRules, readRules, fieldsFrom, fieldsIn, unless, fieldsOf}
 use Rattle.writer.specs.Writing.{Said, tooLarge, badAddress, contentSaid, octetsOf, writeRules}
 use Rattle.writer.proofs.Pairs.{at-most}
 use Rattle.writer.proofs.Tests.{fitting, few}
@@ -171,8 +169,4 @@ module _ (own far records : ℕ) (m : Said) (room : ℕ) (ok : firstOf (writeRul
     octetsRead =
         ap (λ (n : ℕ). unless n (fieldsIn (headingIn xs) xs)) (noneGiven (readRules far own theirs xs) all-clear)
         ∙ ap (λ (h : ℕ). fieldsIn h xs) heading
-        ∙ ap (λ (k : ℕ). record { refusal = 0; circuit = record { 0 = k }; heading = m .heading; acm = fieldBy f ACM xs; category = fieldBy f CATEGORY xs; indicators = fieldBy f INDICATORS xs; count = fieldBy f COUNT xs; address = over (signalsBy f xs) noCodes }) circuit
-        ∙ ap saidBy there
-      where
-        saidBy : Content → Fields
-        saidBy c = record { refusal = 0; circuit = record { 0 = m .cic }; heading = m .heading; acm = c .says ACM; category = c .says CATEGORY; indicators = c .says INDICATORS; count = c .says COUNT; address = over (c .signals) noCodes }
+        ∙ ap (fieldsFrom (m .heading)) there

@@ -13,7 +13,7 @@ use Rattle.circuit.specs.Groups.{badGroup}
 use Rattle.circuit.specs.declared.Cic.{Cic}
 use Rattle.reader.specs.declared.Fields.{Fields}
 use Rattle.circuit.specs.Refusals.{refuse, firstOf}
-use Rattle.formats.specs.Format.{Format, octetsFor, CATEGORY, INDICATORS, COUNT, above, getEach}
+use Rattle.formats.specs.Format.{Format, octetsFor, CATEGORY, INDICATORS, COUNT, above, getEach, contentIn}
 use Rattle.formats.specs.Messages.{iamFormat, amongOwn, ownFormats, headed, formatOf, hasSignals, fixedLength, listed, isIam, half}
 use Rattle.formats.specs.Octets.{badCodes}
 use Rattle.formats.specs.Way.{halves}
@@ -22,7 +22,7 @@ use Rattle.formats.proofs.Places.{dpcThere, opcThere, cicThere, headingThere, a
 use Rattle.formats.proofs.Lengths.{no-length, a-length, the-length}
 use Rattle.words.specs.Octets.{numberOf, over}
 use Rattle.reader.specs.Places.{cicIn, headingIn, fieldBy, signalsBy}
-use Rattle.reader.specs.Reading.{elsewhere, unfit, bodyRules, noCodes, refused, fieldsBy, fieldsIn, unless, fieldsOf}
+use Rattle.reader.specs.Reading.{elsewhere, unfit, bodyRules, noCodes, refused, fieldsFrom, fieldsIn, unless, fieldsOf}
 use Rattle.reader.specs.Way.{bodyOf, plainFields}
 use Rattle.reader.proofs.Signals.{length-halves}
 
@@ -111,8 +111,8 @@ module _ (records h : ℕ) (xs : List ℕ) (octets : (i : ℕ) → getD xs i 0 <
 
       module _ (r : circuit < records) where
         -- by the format that the heading has
-        plainly : (f : Format) → amongOwn h ownFormats ≡ f → bodyOf records h xs ≡ fieldsBy (headed f) h xs
-        plainly f e = taken records h xs other known (n ∙ the-length h fixed is known) (rw k at r) ∙ ap (λ (f : Format). fieldsBy (headed f) h xs) e
+        plainly : (f : Format) → amongOwn h ownFormats ≡ f → bodyOf records h xs ≡ fieldsFrom h (contentIn (headed f) xs)
+        plainly f e = taken records h xs other known (n ∙ the-length h fixed is known) (rw k at r) ∙ ap (λ (f : Format). fieldsFrom h (contentIn (headed f) xs)) e
 
         pub looked-acm : h ≡ 0x14 → bodyOf records h xs ≡ plainFields circuit h (getD xs 6 0 % 64)
         looked-acm e = plainly _ (anAcm h (eq-eqb h 0x14 e)) ∙ ap (plainFields (cicIn xs) h) (acmThere xs octets) ∙ ap (λ (v : ℕ). plainFields v h (getD xs 6 0 % 64)) (sym k)

@@ -13,7 +13,7 @@ use Rattle.reader.specs.declared.Reading.{Reading}
 use Rattle.circuit.specs.Refusals.{refuse, Rule, firstOf}
 use Rattle.formats.specs.Octets.{badCodes}
 use Rattle.words.specs.Octets.{over}
-use Rattle.formats.specs.Format.{Format, octetsFor, ACM, CATEGORY, INDICATORS, COUNT}
+use Rattle.formats.specs.Format.{Format, Content, octetsFor, contentIn, CIC, ACM, CATEGORY, INDICATORS, COUNT}
 use Rattle.formats.specs.Messages.{formatOf, signalsBehind, listed}
 use Rattle.reader.specs.Places.{dpcIn, opcIn, cicIn, headingIn, fieldBy, signalsBy}
 
@@ -61,21 +61,22 @@ noCodes = replicate 15 0
 abbrev pub refused : ℕ → Fields
 refused n = record { refusal = n; circuit = record { 0 = 0 }; heading = 0; acm = 0; category = 0; indicators = 0; count = 0; address = noCodes }
 
--- what the octets say by a format; a field that it does not have is 0, and so is a place of the address that is not used
-abbrev pub fieldsBy : Format → (heading : ℕ) → List ℕ → Fields
-fieldsBy f heading xs = record {
+-- what a message says; a place of the address that is not used is 0
+abbrev pub fieldsFrom : (heading : ℕ) → Content → Fields
+fieldsFrom heading c = record {
   refusal = 0;
-  circuit = record { 0 = cicIn xs };
+  circuit = record { 0 = c .says CIC };
   heading = heading;
-  acm = fieldBy f ACM xs;
-  category = fieldBy f CATEGORY xs;
-  indicators = fieldBy f INDICATORS xs;
-  count = fieldBy f COUNT xs;
-  address = over (signalsBy f xs) noCodes;
+  acm = c .says ACM;
+  category = c .says CATEGORY;
+  indicators = c .says INDICATORS;
+  count = c .says COUNT;
+  address = over (c .signals) noCodes;
 }
 
+-- what the octets say by the format of a heading, which gives 0 for a field that it does not have
 abbrev pub fieldsIn : (heading : ℕ) → List ℕ → Fields
-fieldsIn heading xs = fieldsBy (formatOf heading) heading xs
+fieldsIn heading xs = fieldsFrom heading (contentIn (formatOf heading) xs)
 
 -- the fields where nothing is refused
 abbrev pub unless : ℕ → Fields → Fields
