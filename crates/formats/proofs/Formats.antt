@@ -6,7 +6,7 @@ use mathlib.Core.List.{List, [], _∷_}
 use Prim.Native.Nat.{ℕ, _+_}
 use native.Mathlib.Omega.{arith}
 use borrow.Author.Tests.{eqb-true}
-use lib.Dec.{T, eqb}
+use lib.Dec.{T, eqb, ltb}
 use Rattle.circuit.proofs.Every.{left, right, isTrue, alike, alikeSame}
 use Rattle.formats.specs.Format.{Format, ACM, CATEGORY, INDICATORS, COUNT, octetsFor, most, once}
 use Rattle.formats.specs.Messages.{acmFormat, iamFormat, iamHeading, acmHeading, Own, noFields, ownFormats, amongOwn, headed, formatOf, signalsBehind, hasSignals, fixedLength, isIam, isAcm, half}
@@ -105,5 +105,15 @@ countedLength h len n =
     ∙ ap (λ (k : ℕ). isIam h && not (eqb len k)) (octetsByHeading h n) ∙ go (isIam h)
   where
     go : (a : Bool) → (a && not (eqb len (cond a (9 + half n) (cond (isAcm h) 7 6)))) ≡ (a && not (eqb len (9 + half n)))
+    go true = refl
+    go false = refl
+
+-- or that no message with the heading has
+pub unfitLength : (h len : ℕ) → cond (hasSignals h) (ltb len (fixedLength h)) (not (eqb len (fixedLength h))) ≡ cond (isIam h) (ltb len 9) (not (eqb len (cond (isAcm h) 7 6)))
+unfitLength h len =
+    ap (λ (b : Bool). cond b (ltb len (fixedLength h)) (not (eqb len (fixedLength h)))) (signalsOfIam h)
+    ∙ ap (λ (k : ℕ). cond (isIam h) (ltb len k) (not (eqb len k))) (fixedLengths h) ∙ go (isIam h)
+  where
+    go : (a : Bool) → cond a (ltb len (cond a 9 (cond (isAcm h) 7 6))) (not (eqb len (cond a 9 (cond (isAcm h) 7 6)))) ≡ cond a (ltb len 9) (not (eqb len (cond (isAcm h) 7 6)))
     go true = refl
     go false = refl

@@ -1,13 +1,16 @@
 -- Where the fields of the messages lie in their octets, as the programs look for them and put them: the formats, octet by octet.
 -- Assumes nothing.
 use mathlib.Core.Path.{_≡_, refl, ap, ap₂, _∙_}
+use mathlib.Core.Bool.{cond}
 use mathlib.Core.List.{List, [], _∷_, _++_}
 use Prim.Native.Nat.{ℕ, zero, suc, _+_, _*_, _/_, _%_, _^_, _<_, _≤_}
 use native.Mathlib.Omega.{arith}
+use lib.Dec.{eqb}
 use lib.ListN.{length, getD, take, drop}
+use lib.Seq.{getD-drop}
 use Rattle.words.specs.Octets.{Octets, lowFirst, numberOf}
 use Rattle.words.proofs.Octets.{inParts}
-use Rattle.formats.specs.Format.{DPC, OPC, CIC, HEADING, ACM, CATEGORY, INDICATORS, COUNT, Format, Content, octetsFor, putEach, numberFrom, octetsFrom, get, above, getEach}
+use Rattle.formats.specs.Format.{DPC, OPC, CIC, HEADING, ACM, CATEGORY, INDICATORS, COUNT, Format, Content, octetsFor, putEach, numberFrom, octetsFrom, get, above, getEach, contentIn}
 use Rattle.formats.specs.Messages.{head, acmFormat, iamFormat, noFields, headed, half}
 use Rattle.formats.specs.Way.{pairs, halves}
 
@@ -88,6 +91,35 @@ signalsThere (suc (suc n)) (o ∷ os) h l =
     let f : (o / 16 + 16 * numberOf os) % 16 ≡ o / 16 = omega arith in
     let g : (o / 16 + 16 * numberOf os) / 16 ≡ numberOf os = omega arith in
     rw (e, q, f, g) (ap (λ (r : List ℕ). o % 16 ∷ o / 16 ∷ r) (signalsThere n os (λ i m. h (suc i) (omega arith)) (omega arith)))
+
+-- one of them: the lower half of its octet is the earlier signal's
+pub signalAt : (n i : ℕ) (os : List ℕ) → Octets os → i < n → getD (getEach 4 n (numberOf os)) i 0 ≡ cond (eqb (i % 2) 0) (getD os (i / 2) 0 % 16) (getD os (i / 2) 0 / 16)
+signalAt zero i os h l = absurd (omega arith)
+signalAt (suc n) zero [] h l = refl
+signalAt (suc n) zero (o ∷ os) h l = omega arith
+signalAt (suc zero) (suc i) os h l = absurd (omega arith)
+signalAt (suc (suc n)) (suc zero) [] h l = refl
+signalAt (suc (suc n)) (suc zero) (o ∷ os) h l =
+    let b : o < 256 = h 0 (omega arith) in
+    let q : (o + 256 * numberOf os) / 16 ≡ o / 16 + 16 * numberOf os = omega arith in
+    rw q (omega arith)
+signalAt (suc (suc n)) (suc (suc i)) [] h l =
+    let m : suc (suc i) % 2 ≡ i % 2 = omega arith in
+    rw m (signalAt n i [] h (omega arith))
+signalAt (suc (suc n)) (suc (suc i)) (o ∷ os) h l =
+    let b : o < 256 = h 0 (omega arith) in
+    let q : (o + 256 * numberOf os) / 16 ≡ o / 16 + 16 * numberOf os = omega arith in
+    let g : (o / 16 + 16 * numberOf os) / 16 ≡ numberOf os = omega arith in
+    let d : suc (suc i) / 2 ≡ suc (i / 2) = omega arith in
+    let m : suc (suc i) % 2 ≡ i % 2 = omega arith in
+    rw (q, g, d, m) (signalAt n i os (λ j k. h (suc j) (omega arith)) (omega arith))
+
+pub iamSignal : (xs : List ℕ) (octets : (i : ℕ) → getD xs i 0 < 256) (i : ℕ) → i < contentIn (headed iamFormat) xs .says COUNT
+    → getD (contentIn (headed iamFormat) xs .signals) i 0 ≡ cond (eqb (i % 2) 0) (getD xs (9 + i / 2) 0 % 16) (getD xs (9 + i / 2) 0 / 16)
+iamSignal xs octets i l =
+    ap (λ (k : ℕ). getD (getEach 4 (contentIn (headed iamFormat) xs .says COUNT) k) i 0) (behindIam xs octets)
+    ∙ signalAt (contentIn (headed iamFormat) xs .says COUNT) i (drop 9 xs) (λ j m. rw (getD-drop 9 xs j 0) (octets (9 + j))) l
+    ∙ ap (λ (o : ℕ). cond (eqb (i % 2) 0) (o % 16) (o / 16)) (getD-drop 9 xs (i / 2) 0)
 
 -- PUT INTO OCTETS
 

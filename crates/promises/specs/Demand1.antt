@@ -4,7 +4,7 @@
 -- which refusal is given exactly when, and that it changes nothing. `firstOf` is the number of the first rule that holds, 0 for none.
 -- Assumes nothing.
 use mathlib.Core.Path.{_≡_, refl, ap, _∙_}
-use mathlib.Core.Bool.{Bool, true, false, not, _&&_, _||_}
+use mathlib.Core.Bool.{Bool, true, false, cond, not, _&&_, _||_}
 use mathlib.Core.List.{List, [], _∷_, _++_}
 use mathlib.Core.Logic.{_↔_}
 use Prim.Native.Nat.{ℕ, suc, _+_, _/_, _%_, _<_, _≤_}
@@ -43,11 +43,11 @@ use Rattle.group.specs.Table.{stepIn}
 use Rattle.group.specs.Runs.{Follows, Follows.start, Follows.next}
 use Rattle.group.proofs.Laws as group
 use Rattle.group.proofs.Valid.{never12}
-use Rattle.formats.specs.Messages.{listed, isIam, half}
+use Rattle.formats.specs.Messages.{listed, isIam, isAcm, half}
 use Rattle.formats.specs.Octets.{badCodes}
 use Rattle.reader.specs.Places.{cicIn, headingIn, countIn, addressIn}
 use Rattle.reader.specs.Reading.{elsewhere, unfit, fieldsOf}
-use Rattle.formats.proofs.Formats.{signalsOfIam, countedLength}
+use Rattle.formats.proofs.Formats.{signalsOfIam, countedLength, unfitLength}
 use Rattle.writer.specs.Writing.{Said, tooLarge, badAddress, octetsOf, writeRules}
 use Rattle.tup.specs.Entries.{readInto, writeFrom}
 use Rattle.inverse.specs.Host.{intoRules}
@@ -182,6 +182,10 @@ readerRules own far count xs room =
     ∷ refuse 2 (leb count (cicIn xs))
     ∷ refuse 11 (ltb room 23)
     ∷ []
+
+-- a length that does not fit the heading: an IAM under 9 octets, an ACM not of 7, any other not of 6
+pub unfitIs : (heading len : ℕ) → unfit heading len ≡ cond (isIam heading) (ltb len 9) (not (eqb len (cond (isAcm heading) 7 6)))
+unfitIs = unfitLength
 
 -- the reader goes by the format of the heading; by the letter that is this
 readByLetter : (own far count : ℕ) (xs : List ℕ) (room : ℕ) → intoRules own far count xs room ≡ readerRules own far count xs room

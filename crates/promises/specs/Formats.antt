@@ -5,15 +5,27 @@
 use mathlib.Core.Path.{_≡_, refl}
 use mathlib.Core.Bool.{Bool, true, false, cond}
 use mathlib.Core.List.{List, [], _∷_, _++_}
-use Prim.Native.Nat.{ℕ, _/_, _%_, _^_}
-use lib.Dec.{T}
-use lib.ListN.{length, getD, replicate}
+use Prim.Native.Nat.{ℕ, _+_, _*_, _/_, _%_, _^_, _<_}
+use native.Mathlib.Omega.{arith}
+use borrow.Author.Tests.{ltb-true, ltb-false}
+use lib.Dec.{T, eqb, ltb, lit<}
+use lib.ListN.{length, getD, replicate, List·getD-eq-default}
 use Rattle.words.specs.Octets.{numberOf}
 use Rattle.formats.specs.Format.{Name, DPC, OPC, CIC, HEADING, ACM, CATEGORY, INDICATORS, COUNT, field, spare, addressSignals, Format, Content, octetsFor, octetsFrom, contentIn, Fits, once, saying, only, clearedBy}
 use Rattle.formats.specs.Messages.{formatOf}
 use Rattle.formats.proofs.Format as laws
 use Rattle.formats.proofs.Formats.{onceEach}
+use Rattle.formats.proofs.Places as places
+use Rattle.reader.specs.Places.{dpcIn, opcIn, cicIn, headingIn}
 use Rattle.inverse.specs.Octets.{cleared}
+
+-- beyond the last octet there are zeros
+everywhere : (xs : List ℕ) → ((i : ℕ) → i < length xs → getD xs i 0 < 256) → (i : ℕ) → getD xs i 0 < 256
+everywhere xs octets i = go (ltb i (length xs)) refl
+  where
+    go : (b : Bool) → ltb i (length xs) ≡ b → getD xs i 0 < 256
+    go true e = octets i (ltb-true i (length xs) e)
+    go false e = rw (List·getD-eq-default xs 0 (ltb-false i (length xs) e)) (lit< tt)
 
 -- EVERY FORMAT
 
@@ -91,6 +103,32 @@ shownCleared = refl
 -- whatever the heading, no field stands twice in its format
 pub fieldsStandOnce : (heading : ℕ) → T (once (formatOf heading .fields))
 fieldsStandOnce = onceEach
+
+-- Where the fields lie, octet by octet: the label is DPC + 2^14 · OPC + 2^28 · CIC in five octets, lowest first, and then comes the heading;
+module _ (xs : List ℕ) (octets : (i : ℕ) → i < length xs → getD xs i 0 < 256) where
+  pub labelThere : (dpcIn xs + 2 ^ 14 * opcIn xs + 2 ^ 28 * cicIn xs ≡ numberOf (getD xs 0 0 ∷ getD xs 1 0 ∷ getD xs 2 0 ∷ getD xs 3 0 ∷ getD xs 4 0 ∷ []))
+      × (dpcIn xs < 2 ^ 14) × (opcIn xs < 2 ^ 14) × (cicIn xs < 2 ^ 12) × (headingIn xs ≡ getD xs 5 0)
+  labelThere =
+      let all = everywhere xs octets in
+      let d = places.dpcThere xs all in
+      let o = places.opcThere xs all in
+      let c = places.cicThere xs all in
+      (omega arith, omega arith, omega arith, omega arith, places.headingThere xs all)
+
+  -- an ACM's octet is below its two spare bits;
+  pub acmThere : contentIn (formatOf 0x14) xs .says ACM ≡ getD xs 6 0 % 64
+  acmThere = places.acmThere xs (everywhere xs octets)
+
+  -- an IAM's category too; of its next two octets, lowest first, eleven bits are indicators, one is spare, and the top four are the count;
+  pub iamThere : let c = contentIn (formatOf 0x11) xs in
+      let two = numberOf (getD xs 7 0 ∷ getD xs 8 0 ∷ []) in
+      (c .says CATEGORY ≡ getD xs 6 0 % 64) × (c .says INDICATORS ≡ two % 2048) × (c .says COUNT ≡ two / 4096)
+  iamThere = let all = everywhere xs octets in (places.categoryThere xs all, places.indicatorsThere xs all, places.countThere xs all)
+
+  -- and then its signals, two to an octet, the earlier one low.
+  pub signalThere : let c = contentIn (formatOf 0x11) xs in
+      (i : ℕ) → i < c .says COUNT → getD (c .signals) i 0 ≡ cond (eqb (i % 2) 0) (getD xs (9 + i / 2) 0 % 16) (getD xs (9 + i / 2) 0 / 16)
+  signalThere = places.iamSignal xs (everywhere xs octets)
 
 -- every bit set but the heading's, and what is left when spare bits and filler are cleared: of a CLF all, of an ACM and of an IAM with fifteen signals
 -- not the two top bits of octet 6, and of the IAM not the bit worth 8 of octet 8, nor the filler
