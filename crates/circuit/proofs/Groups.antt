@@ -15,6 +15,9 @@ none false true c d e = absurd (subst T e tt)
 none false false true d e = absurd (subst T e tt)
 none false false false d e = (refl, refl, refl, e)
 
+pub allFalse : (a b c d : Bool) → a ≡ false → b ≡ false → c ≡ false → d ≡ false → (a || b || c || d) ≡ false
+allFalse a b c d p q r s = rw (p, q, r, s)
+
 -- a group that is taken has at most 4096 records
 pub atMost4096 : (own far records : ℕ) → badGroup own far records ≡ false → records ≤ 4096
 atMost4096 own far records e = go (eqb records 0) (none (badCode own) (badCode far) (eqb own far) _ e .3)
@@ -33,16 +36,13 @@ inRange own far records e =
 
 -- and is one from the other end too, with any number of records that a group may have
 pub turned : (own far records theirs : ℕ) → badGroup own far records ≡ false → (eqb theirs 0 || ltb 4096 theirs) ≡ false → badGroup far own theirs ≡ false
-turned own far records theirs e m = all (badCode far) (badCode own) (eqb far own) (eqb theirs 0 || ltb 4096 theirs) (n .1) (n .0) other m
+turned own far records theirs e m = allFalse (badCode far) (badCode own) (eqb far own) (eqb theirs 0 || ltb 4096 theirs) (n .1) (n .0) other m
   where
     n : (badCode own ≡ false) × (badCode far ≡ false) × (eqb own far ≡ false) × ((eqb records 0 || ltb 4096 records) ≡ false)
     n = none (badCode own) (badCode far) (eqb own far) (eqb records 0 || ltb 4096 records) e
 
     other : eqb far own ≡ false
     other = ne-eqb far own (λ p. eqb-false own far (n .2) (sym p))
-
-    all : (a b c d : Bool) → a ≡ false → b ≡ false → c ≡ false → d ≡ false → (a || b || c || d) ≡ false
-    all a b c d p q r s = rw (p, q, r, s)
 
 -- its number of records is one that a group may have
 pub recordsFit : (own far records : ℕ) → badGroup own far records ≡ false → (eqb records 0 || ltb 4096 records) ≡ false

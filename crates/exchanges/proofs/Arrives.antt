@@ -28,7 +28,7 @@ use Rattle.reader.specs.declared.Fields.{Fields}
 use Rattle.formats.specs.Format.{ACM}
 use Rattle.formats.specs.Messages.{formatOf, isAcm}
 use Rattle.formats.proofs.Format.{gotFits}
-use Rattle.formats.proofs.Formats.{acmMost}
+use Rattle.formats.proofs.ByHeading.{acmMost}
 use Rattle.reader.specs.Places.{cicIn, headingIn, fieldBy}
 use Rattle.reader.specs.Reading.{readRules, fieldsIn, unless, fieldsOf}
 use Rattle.writer.specs.Writing.{badAddress}

@@ -239,23 +239,28 @@ gotFits f k = record {
 
 -- WHAT WAS GOT AND IS PUT AGAIN
 
+-- one bit, and so many above it
+halved : (w k : ℕ) → k / 2 / 2 ^ w ≡ k / 2 ^ suc w
+halved w k = div-div-eq-div-mul k 2 (2 ^ w) ∙ ap (λ (p : ℕ). k / p) (sym (pow-succ' 2 w))
+
+doubled : (w k : ℕ) → 2 ^ suc w * k ≡ 2 * (2 ^ w * k)
+doubled w k = ap (λ (p : ℕ). p * k) (pow-succ' 2 w) ∙ mul-assoc 2 (2 ^ w) k
+
 onlyTrue : (w : ℕ) (bs : List Bool) (k : ℕ) → only (replicate w true ++ bs) k ≡ k % 2 ^ w + 2 ^ w * only bs (k / 2 ^ w)
 onlyTrue zero bs k =
     let a : k % 1 ≡ 0 = omega arith in
     let b : k / 1 ≡ k = omega arith in
     rw (a, b) (omega arith)
 onlyTrue (suc w) bs k =
-    let e : k / 2 / 2 ^ w ≡ k / 2 ^ suc w = div-div-eq-div-mul k 2 (2 ^ w) ∙ ap (λ (p : ℕ). k / p) (sym (pow-succ' 2 w)) in
     let m : k % 2 ^ suc w ≡ (k / 2 % 2 ^ w) * 2 + k % 2 = ap (λ (p : ℕ). k % p) (pow-suc 2 w) ∙ mod-mul k (pow-pos w) (lit< tt) in
-    let p : 2 ^ suc w * only bs (k / 2 ^ suc w) ≡ 2 * (2 ^ w * only bs (k / 2 ^ suc w)) = ap (λ (q : ℕ). q * only bs (k / 2 ^ suc w)) (pow-succ' 2 w) ∙ mul-assoc 2 (2 ^ w) (only bs (k / 2 ^ suc w)) in
-    ap (λ (x : ℕ). k % 2 + 2 * x) (onlyTrue w bs (k / 2) ∙ ap (λ (j : ℕ). k / 2 % 2 ^ w + 2 ^ w * only bs j) e) ∙ omega arith
+    let p = doubled w (only bs (k / 2 ^ suc w)) in
+    ap (λ (x : ℕ). k % 2 + 2 * x) (onlyTrue w bs (k / 2) ∙ ap (λ (j : ℕ). k / 2 % 2 ^ w + 2 ^ w * only bs j) (halved w k)) ∙ omega arith
 
 onlyFalse : (w : ℕ) (bs : List Bool) (k : ℕ) → only (replicate w false ++ bs) k ≡ 2 ^ w * only bs (k / 2 ^ w)
 onlyFalse zero bs k = let b : k / 1 ≡ k = omega arith in rw b (omega arith)
 onlyFalse (suc w) bs k =
-    let e : k / 2 / 2 ^ w ≡ k / 2 ^ suc w = div-div-eq-div-mul k 2 (2 ^ w) ∙ ap (λ (p : ℕ). k / p) (sym (pow-succ' 2 w)) in
-    let p : 2 ^ suc w * only bs (k / 2 ^ suc w) ≡ 2 * (2 ^ w * only bs (k / 2 ^ suc w)) = ap (λ (q : ℕ). q * only bs (k / 2 ^ suc w)) (pow-succ' 2 w) ∙ mul-assoc 2 (2 ^ w) (only bs (k / 2 ^ suc w)) in
-    ap (λ (x : ℕ). 0 + 2 * x) (onlyFalse w bs (k / 2) ∙ ap (λ (j : ℕ). 2 ^ w * only bs j) e) ∙ omega arith
+    let p = doubled w (only bs (k / 2 ^ suc w)) in
+    ap (λ (x : ℕ). 0 + 2 * x) (onlyFalse w bs (k / 2) ∙ ap (λ (j : ℕ). 2 ^ w * only bs j) (halved w k)) ∙ omega arith
 
 eachAgain : (w n k : ℕ) → putEach w (getEach w n k) ≡ only (replicate (w * n) true) k
 eachAgain w zero k = ap (λ (j : ℕ). only (replicate j true) k) (sym (mul-zero w))
@@ -305,12 +310,9 @@ eachBit (b ∷ bs) k zero = go b
     go false = let e : (0 + 2 * rest) / 1 ≡ 2 * rest = omega arith in rw e (omega arith)
 eachBit (b ∷ bs) k (suc i) =
     let q : (cond b (k % 2) 0 + 2 * only bs (k / 2)) / 2 ≡ only bs (k / 2) = go b in
-    ap (λ (n : ℕ). n % 2) (halved (cond b (k % 2) 0 + 2 * only bs (k / 2)) ∙ ap (λ (n : ℕ). n / 2 ^ i) q)
-    ∙ eachBit bs (k / 2) i ∙ ap (λ (n : ℕ). cond (getD bs i false) (n % 2) 0) (sym (halved k))
+    ap (λ (n : ℕ). n % 2) (sym (halved i (cond b (k % 2) 0 + 2 * only bs (k / 2))) ∙ ap (λ (n : ℕ). n / 2 ^ i) q)
+    ∙ eachBit bs (k / 2) i ∙ ap (λ (n : ℕ). cond (getD bs i false) (n % 2) 0) (halved i k)
   where
-    halved : (n : ℕ) → n / 2 ^ suc i ≡ n / 2 / 2 ^ i
-    halved n = ap (λ (p : ℕ). n / p) (pow-succ' 2 i) ∙ sym (div-div-eq-div-mul n 2 (2 ^ i))
-
     go : (b : Bool) → (cond b (k % 2) 0 + 2 * only bs (k / 2)) / 2 ≡ only bs (k / 2)
     go true = omega arith
     go false = omega arith

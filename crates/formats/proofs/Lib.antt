@@ -2,5 +2,5 @@ pub mod Signals
 pub mod Lengths
 pub mod Stores
 pub mod Format
-pub mod Formats
+pub mod ByHeading
 pub mod Places

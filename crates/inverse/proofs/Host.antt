@@ -17,7 +17,7 @@ use Rattle.words.proofs.Octets.{numberBack}
 use Rattle.reader.specs.declared.Fields.{Fields}
 use Rattle.formats.specs.Format.{INDICATORS, most}
 use Rattle.formats.specs.Messages.{formatOf, isIam}
-use Rattle.formats.proofs.Formats.{indicatorsMost}
+use Rattle.formats.proofs.ByHeading.{indicatorsMost}
 use Rattle.reader.specs.Places.{headingIn, fieldBy, signalsBy}
 use Rattle.reader.specs.Reading.{noCodes, fieldsOf}
 use Rattle.writer.specs.Writing.{Said, octetsOf, writeRules, putting, Outcome, writing}

@@ -11,7 +11,7 @@ use Rattle.circuit.specs.Refusals.{firstOf}
 use Rattle.words.specs.Octets.{Octets, over}
 use Rattle.formats.specs.Messages.{formatOf}
 use Rattle.formats.proofs.Format as format
-use Rattle.formats.proofs.Formats.{octetsByHeading}
+use Rattle.formats.proofs.ByHeading.{octetsByHeading}
 use Rattle.reader.specs.Reading.{fieldsOf}
 use Rattle.writer.specs.Writing.{Said, contentSaid, octetsOf, writeRules, putting, Outcome, writing}
 use Rattle.inverse.specs.Octets.{cleared}

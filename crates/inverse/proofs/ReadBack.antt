@@ -2,39 +2,29 @@
 -- formats; here stands that the reader takes it.
 -- Assumes nothing.
 use mathlib.Core.Path.{_≡_, refl, sym, ap, _∙_, subst}
-use mathlib.Core.Bool.{Bool, true, false, cond, not, _&&_, _||_}
+use mathlib.Core.Bool.{Bool, true, false, cond, not, _&&_}
 use mathlib.Core.List.{List}
 use Prim.Native.Nat.{ℕ, _^_, _<_, _≤_}
 use native.Mathlib.Omega.{arith}
-use borrow.Author.Tests.{ltb-false, le-ltb, lt-leb, eqb-false, eq-eqb, ne-eqb, not-false}
-use lib.Dec.{T, eqb, ltb}
+use borrow.Author.Tests.{ltb-false, le-ltb, lt-leb, eq-eqb, ne-eqb, not-false}
+use lib.Dec.{eqb, ltb}
 use lib.ListN.{length, getD}
 use Rattle.circuit.specs.Groups.{badGroup}
-use Rattle.circuit.proofs.Groups.{none, inRange}
+use Rattle.circuit.proofs.Groups.{inRange}
 use Rattle.circuit.specs.Refusals.{firstOf, Clear}
 use Rattle.circuit.proofs.Refusals.{clear, noneGiven}
 use Rattle.formats.specs.Format.{Name, DPC, OPC, CIC, HEADING, ACM, CATEGORY, INDICATORS, COUNT, Behind, nothing, addressSignals, Format, Content, each, many, octetsFor, contentIn, most, Fits}
 use Rattle.formats.specs.Messages.{formatOf, signalsBehind, hasSignals, listed}
 use Rattle.formats.specs.Octets.{badCodes, aboveFifteen}
 use Rattle.formats.proofs.Format as format
-use Rattle.formats.proofs.Formats.{onceEach, countMost}
+use Rattle.formats.proofs.ByHeading.{onceEach, countMost}
 use Rattle.formats.proofs.Lengths.{octet}
 use Rattle.reader.specs.Places.{cicIn, headingIn}
 use Rattle.reader.specs.Reading.{elsewhere, unfitBy, formatRules, bodyRules, readRules, fieldsFrom, fieldsIn, unless, fieldsOf}
 use Rattle.writer.specs.Writing.{Said, tooLarge, badAddress, contentSaid, octetsOf, writeRules}
 use Rattle.writer.proofs.Pairs.{at-most}
-use Rattle.writer.proofs.Tests.{fitting, few}
+use Rattle.writer.proofs.Tests.{fitting, fitting-address, in-order, few}
 use Rattle.inverse.specs.Said.{fieldsSaid}
-
--- an address that is in order
-inOrder : (address : List ℕ) → badAddress address ≡ false → (length address ≡ 0 → ⊥) × (badCodes address ≡ false)
-unfolding badAddress
-inOrder address e = go (eqb (length address) 0) (ltb 15 (length address)) refl e
-  where
-    go : (x y : Bool) → eqb (length address) 0 ≡ x → (x || y || badCodes address) ≡ false → (length address ≡ 0 → ⊥) × (badCodes address ≡ false)
-    go true y p q = absurd (subst T q tt)
-    go false true p q = absurd (subst T q tt)
-    go false false p q = (eqb-false (length address) 0 p, q)
 
 -- a test that is made only of some
 while : (b : Bool) {t : Bool} → (b ≡ true → t ≡ false) → (b && t) ≡ false
@@ -61,9 +51,7 @@ module _ (own far records : ℕ) (m : Said) (room : ℕ) (ok : firstOf (writeRul
 
   -- an address exactly where the heading has one
   codes : cond (hasSignals (m .heading)) (aboveFifteen (m .address)) (ltb 0 (length (m .address))) ≡ false
-  unfolding tooLarge
-  codes = none (ltb (most (formatOf (m .heading) .fields) ACM) (m .acm)) (ltb (most (formatOf (m .heading) .fields) CATEGORY) (m .category)) (ltb (most (formatOf (m .heading) .fields) INDICATORS) (m .indicators))
-      (cond (hasSignals (m .heading)) (aboveFifteen (m .address)) (ltb 0 (length (m .address)))) (taking .2) .3
+  codes = fitting-address m (taking .2)
 
   module _ (some : hasSignals (m .heading) ≡ true) where
     ordered : badAddress (m .address) ≡ false
@@ -140,11 +128,11 @@ module _ (own far records : ℕ) (m : Said) (room : ℕ) (ok : firstOf (writeRul
     format-clear = (
       fitsLength,
       (
-        while (hasSignals (m .heading)) (λ e. ne-eqb _ 0 (λ z. inOrder (m .address) (ordered e) .0 (sym (says COUNT) ∙ z))),
+        while (hasSignals (m .heading)) (λ e. ne-eqb _ 0 (λ z. in-order (m .address) (ordered e) .0 (sym (says COUNT) ∙ z))),
         (
           while (hasSignals (m .heading)) (λ e. ap not (eq-eqb _ _ (long ∙ ap (octetsFor f) (sym (says COUNT))))),
           (
-            while (hasSignals (m .heading)) (λ e. ap (λ (c : Content). badCodes (c .signals)) there ∙ inOrder (m .address) (ordered e) .1),
+            while (hasSignals (m .heading)) (λ e. ap (λ (c : Content). badCodes (c .signals)) there ∙ in-order (m .address) (ordered e) .2),
             (lt-leb theirs (cicIn xs) (subst (λ (k : ℕ). k < theirs) (sym circuit) has), tt),
           ),
         ),

@@ -11,13 +11,13 @@ use lib.Dec.{T, eqb, ltb}
 use lib.ListN.{length, getD, drop}
 use lib.Seq.{take-at}
 use Rattle.circuit.specs.Refusals.{firstOf, Clear}
-use Rattle.circuit.proofs.Groups.{turned, recordsFit}
+use Rattle.circuit.proofs.Groups.{allFalse, turned, recordsFit}
 use Rattle.circuit.proofs.Refusals.{clear, noneGiven}
 use Rattle.formats.specs.Format.{Name, DPC, OPC, CIC, HEADING, ACM, CATEGORY, INDICATORS, COUNT, Behind, nothing, addressSignals, Format, Content, each, many, octetsFor, octetsFrom, contentIn, most, Fits}
 use Rattle.formats.specs.Messages.{formatOf, signalsBehind, hasSignals}
 use Rattle.formats.specs.Octets.{badCodes, aboveFifteen}
 use Rattle.formats.proofs.Format as format
-use Rattle.formats.proofs.Formats.{onceEach, countMost}
+use Rattle.formats.proofs.ByHeading.{onceEach, countMost}
 use Rattle.words.specs.Octets.{numberOf}
 use Rattle.words.proofs.Octets.{length-lowFirst}
 use Rattle.reader.specs.Places.{dpcIn, opcIn, cicIn, headingIn, fieldBy}
@@ -31,9 +31,6 @@ both : (a b : Bool) → (not a || not b) ≡ false → (a ≡ true) × (b ≡ tr
 both true true e = (refl, refl)
 both true false e = absurd (subst T e tt)
 both false b e = absurd (subst T e tt)
-
-allFalse : (a b c d : Bool) → a ≡ false → b ≡ false → c ≡ false → d ≡ false → (a || b || c || d) ≡ false
-allFalse a b c d p q r s = rw (p, q, r, s)
 
 three : (a b c : Bool) → a ≡ false → b ≡ false → c ≡ false → (a || b || c) ≡ false
 three a b c p q r = rw (p, q, r)
@@ -72,19 +69,23 @@ module _ (own far records : ℕ) (xs : List ℕ) (ok : fieldsOf own far records 
   fits : Fits f c
   fits = format.gotFits f (numberOf xs)
 
-  -- as many signals as the count says, and none where there is none
+  -- as many signals as the fields say
+  manyBy : (b : Behind) → f .behind ≡ b → many b (c .says) ≡ length (c .signals)
+  manyBy b e = subst (λ (b : Behind). many b (c .says) ≡ length (c .signals)) e (fits .counted)
+
+  -- that is, as the count says, and none where there is none
   counted : fieldBy f COUNT xs ≡ length (c .signals)
   counted = go (f .behind) refl
     where
       go : (b : Behind) → f .behind ≡ b → fieldBy f COUNT xs ≡ length (c .signals)
       go nothing e =
           let z : fieldBy f COUNT xs ≤ 0 = subst (λ (k : ℕ). fieldBy f COUNT xs ≤ k) (countMost (headingIn xs) ∙ ap (λ (b : Behind). cond (signalsBehind b) 15 0) e) (fits .fields COUNT) in
-          let n : 0 ≡ length (c .signals) = subst (λ (b : Behind). many b (c .says) ≡ length (c .signals)) e (fits .counted) in
+          let n = manyBy nothing e in
           omega arith
-      go addressSignals e = subst (λ (b : Behind). many b (c .says) ≡ length (c .signals)) e (fits .counted)
+      go addressSignals e = manyBy addressSignals e
 
   pub atMostFifteen : length (c .signals) ≤ 15
-  atMostFifteen = let n = counted in let l : fieldBy f COUNT xs ≤ cond (hasSignals (headingIn xs)) 15 0 = subst (λ (k : ℕ). fieldBy f COUNT xs ≤ k) (countMost (headingIn xs)) (fits .fields COUNT) in go (hasSignals (headingIn xs)) l
+  atMostFifteen = go (hasSignals (headingIn xs)) (subst (λ (k : ℕ). fieldBy f COUNT xs ≤ k) (countMost (headingIn xs)) (fits .fields COUNT))
     where
       go : (b : Bool) → fieldBy f COUNT xs ≤ cond b 15 0 → length (c .signals) ≤ 15
       go true l = let n = counted in omega arith
@@ -102,7 +103,7 @@ module _ (own far records : ℕ) (xs : List ℕ) (ok : fieldsOf own far records 
     where
       go : (b : Behind) → f .behind ≡ b → length xs ≡ octetsFor f (length (c .signals))
       go nothing e =
-          let n : 0 ≡ length (c .signals) = subst (λ (b : Behind). many b (c .says) ≡ length (c .signals)) e (fits .counted) in
+          let n = manyBy nothing e in
           eqb-true _ _ (not-false (eqb (length xs) (octetsFor f 0)) (subst (λ (b : Behind). cond (signalsBehind b) (ltb (length xs) (octetsFor f 0)) (not (eqb (length xs) (octetsFor f 0))) ≡ false) e (bodies .1 .0)))
           ∙ ap (octetsFor f) n
       go addressSignals e =
@@ -148,7 +149,7 @@ module _ (own far records : ℕ) (xs : List ℕ) (ok : fieldsOf own far records 
     where
       go : (b : Behind) → f .behind ≡ b → cond (signalsBehind (f .behind)) (aboveFifteen (c .signals)) (ltb 0 (length (c .signals))) ≡ false
       go nothing e =
-          let n : 0 ≡ length (c .signals) = subst (λ (b : Behind). many b (c .says) ≡ length (c .signals)) e (fits .counted) in
+          let n = manyBy nothing e in
           ap (λ (b : Behind). cond (signalsBehind b) (aboveFifteen (c .signals)) (ltb 0 (length (c .signals)))) e ∙ le-ltb 0 (length (c .signals)) (omega arith)
       go addressSignals e =
           ap (λ (b : Behind). cond (signalsBehind b) (aboveFifteen (c .signals)) (ltb 0 (length (c .signals)))) e

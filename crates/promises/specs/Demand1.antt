@@ -47,7 +47,8 @@ use Rattle.formats.specs.Messages.{listed, isIam, isAcm, half}
 use Rattle.formats.specs.Octets.{badCodes}
 use Rattle.reader.specs.Places.{cicIn, headingIn, countIn, addressIn}
 use Rattle.reader.specs.Reading.{elsewhere, unfit, fieldsOf}
-use Rattle.formats.proofs.Formats.{signalsOfIam, countedLength, unfitLength}
+use Rattle.reader.proofs.Bodies.{unfitLength}
+use Rattle.formats.proofs.ByHeading.{signalsOfIam, countedLength}
 use Rattle.writer.specs.Writing.{Said, tooLarge, badAddress, octetsOf, writeRules}
 use Rattle.tup.specs.Entries.{readInto, writeFrom}
 use Rattle.inverse.specs.Host.{intoRules}

@@ -7,25 +7,17 @@ use mathlib.Core.Bool.{Bool, true, false, cond}
 use mathlib.Core.List.{List, [], _∷_, _++_}
 use Prim.Native.Nat.{ℕ, _+_, _*_, _/_, _%_, _^_, _<_}
 use native.Mathlib.Omega.{arith}
-use borrow.Author.Tests.{ltb-true, ltb-false}
-use lib.Dec.{T, eqb, ltb, lit<}
-use lib.ListN.{length, getD, replicate, List·getD-eq-default}
+use lib.Dec.{T, eqb}
+use lib.ListN.{length, getD, replicate}
 use Rattle.words.specs.Octets.{numberOf}
+use Rattle.words.proofs.Octets.{everywhere}
 use Rattle.formats.specs.Format.{Name, DPC, OPC, CIC, HEADING, ACM, CATEGORY, INDICATORS, COUNT, field, spare, addressSignals, Format, Content, octetsFor, octetsFrom, contentIn, Fits, once, saying, only, clearedBy}
 use Rattle.formats.specs.Messages.{formatOf}
 use Rattle.formats.proofs.Format as laws
-use Rattle.formats.proofs.Formats.{onceEach}
+use Rattle.formats.proofs.ByHeading.{onceEach}
 use Rattle.formats.proofs.Places as places
 use Rattle.reader.specs.Places.{dpcIn, opcIn, cicIn, headingIn}
 use Rattle.inverse.specs.Octets.{cleared}
-
--- beyond the last octet there are zeros
-everywhere : (xs : List ℕ) → ((i : ℕ) → i < length xs → getD xs i 0 < 256) → (i : ℕ) → getD xs i 0 < 256
-everywhere xs octets i = go (ltb i (length xs)) refl
-  where
-    go : (b : Bool) → ltb i (length xs) ≡ b → getD xs i 0 < 256
-    go true e = octets i (ltb-true i (length xs) e)
-    go false e = rw (List·getD-eq-default xs 0 (ltb-false i (length xs) e)) (lit< tt)
 
 -- EVERY FORMAT
 

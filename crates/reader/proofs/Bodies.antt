@@ -14,10 +14,10 @@ use Rattle.circuit.specs.declared.Cic.{Cic}
 use Rattle.reader.specs.declared.Fields.{Fields}
 use Rattle.circuit.specs.Refusals.{refuse, firstOf}
 use Rattle.formats.specs.Format.{Format, octetsFor, CATEGORY, INDICATORS, COUNT, above, getEach, contentIn}
-use Rattle.formats.specs.Messages.{iamFormat, amongOwn, ownFormats, headed, formatOf, hasSignals, fixedLength, listed, isIam, half}
+use Rattle.formats.specs.Messages.{iamFormat, amongOwn, ownFormats, headed, formatOf, hasSignals, fixedLength, listed, isIam, isAcm, half}
 use Rattle.formats.specs.Octets.{badCodes}
 use Rattle.formats.specs.Way.{halves}
-use Rattle.formats.proofs.Formats.{anAcm, neither, signalsOfIam, iamOctets}
+use Rattle.formats.proofs.ByHeading.{anAcm, neither, signalsOfIam, iamOctets, fixedLengths}
 use Rattle.formats.proofs.Places.{dpcThere, opcThere, cicThere, headingThere, acmThere, categoryThere, indicatorsThere, countThere, behindIam, signalsThere}
 use Rattle.formats.proofs.Lengths.{no-length, a-length, the-length}
 use Rattle.words.specs.Octets.{numberOf, over}
@@ -51,6 +51,14 @@ module _ (f : Fields) (b₀ b₁ b₂ b₃ b₄ b₅ : Bool) where
 
   at6 : b₀ ≡ false → b₁ ≡ false → b₂ ≡ false → b₃ ≡ false → b₄ ≡ false → b₅ ≡ false → judged f b₀ b₁ b₂ b₃ b₄ b₅ ≡ f
   at6 e₀ e₁ e₂ e₃ e₄ e = rw (e₀, e₁, e₂, e₃, e₄, e)
+
+-- a length that does not fit the heading, by the letter
+pub unfitLength : (h len : ℕ) → unfit h len ≡ cond (isIam h) (ltb len 9) (not (eqb len (cond (isAcm h) 7 6)))
+unfitLength h len = ap (λ (b : Bool). cond b (ltb len (fixedLength h)) (not (eqb len (fixedLength h)))) (signalsOfIam h) ∙ ap (λ (k : ℕ). cond (isIam h) (ltb len k) (not (eqb len k))) (fixedLengths h) ∙ go (isIam h)
+  where
+    go : (a : Bool) → cond a (ltb len (cond a 9 (cond (isAcm h) 7 6))) (not (eqb len (cond a 9 (cond (isAcm h) 7 6)))) ≡ cond a (ltb len 9) (not (eqb len (cond (isAcm h) 7 6)))
+    go true = refl
+    go false = refl
 
 -- a message other than an IAM, by its heading
 module _ (records h : ℕ) (xs : List ℕ) (other : isIam h ≡ false) where
@@ -259,7 +267,7 @@ module _ (own far records : ℕ) (xs : List ℕ) where
   unfolding fieldsOf
   stray e h s = ap (λ (b : Bool). begun b (ltb (length xs) 6) (elsewhere own far xs)) e ∙ ap (λ (b : Bool). begun false b (elsewhere own far xs)) (le-ltb _ _ h) ∙ ap (begun false false) s
 
-  pub ours : badGroup own far records ≡ false → 6 ≤ length xs → elsewhere own far xs ≡ false → fieldsOf own far records xs ≡ bodyOf records (headingIn xs) xs
+  ours : badGroup own far records ≡ false → 6 ≤ length xs → elsewhere own far xs ≡ false → fieldsOf own far records xs ≡ bodyOf records (headingIn xs) xs
   unfolding fieldsOf bodyOf
   ours e h s = ap (λ (b : Bool). begun b (ltb (length xs) 6) (elsewhere own far xs)) e ∙ ap (λ (b : Bool). begun false b (elsewhere own far xs)) (le-ltb _ _ h) ∙ ap (begun false false) s
 

@@ -1,13 +1,15 @@
--- Laws of a number in octets, lowest first: it is in them, and its octets in two parts are those of its two parts.
+-- Laws of octets, and of a number in them, lowest first: it is in them, and its octets in two parts are those of its two parts.
 -- Assumes nothing.
 use mathlib.Core.Path.{_≡_, refl, ap, _∙_, subst}
+use mathlib.Core.Bool.{Bool, true, false}
 use mathlib.Core.List.{List, _∷_, _++_}
 use Prim.Native.Nat.{ℕ, zero, suc, _+_, _*_, _/_, _%_, _^_, _<_}
 use native.Mathlib.Nat.{pow-suc, pow-succ', pow-zero, zero-add, suc-add, mul-assoc, div-lt-iff-lt-mul}
 use native.Mathlib.Omega.{arith}
-use lib.Dec.{lit<}
-use lib.ListN.{length}
-use Rattle.words.specs.Octets.{lowFirst, numberOf}
+use borrow.Author.Tests.{ltb-true, ltb-false}
+use lib.Dec.{ltb, lit<}
+use lib.ListN.{length, getD, List·getD-eq-default}
+use Rattle.words.specs.Octets.{Octets, lowFirst, numberOf}
 
 -- a number that is put into octets is in them, whatever their count
 pub numberBack : (k n : ℕ) → n < 256 ^ k → numberOf (lowFirst k n) ≡ n
@@ -33,3 +35,11 @@ inParts (suc j) k a b h =
     let low : (a + 256 * (256 ^ j * b)) % 256 ≡ a % 256 = omega arith in
     let high : (a + 256 * (256 ^ j * b)) / 256 ≡ a / 256 + 256 ^ j * b = omega arith in
     rw (suc-add j k, m) (rw (low, high) (ap (λ (r : List ℕ). a % 256 ∷ r) (inParts j k (a / 256) b q)))
+
+-- beyond the last octet there are zeros, so that every place holds one
+pub everywhere : (xs : List ℕ) → Octets xs → (i : ℕ) → getD xs i 0 < 256
+everywhere xs octets i = go (ltb i (length xs)) refl
+  where
+    go : (b : Bool) → ltb i (length xs) ≡ b → getD xs i 0 < 256
+    go true e = octets i (ltb-true i (length xs) e)
+    go false e = rw (List·getD-eq-default xs 0 (ltb-false i (length xs) e)) (lit< tt)

@@ -5,14 +5,14 @@ use mathlib.Core.Bool.{Bool, true, false, cond, _||_}
 use Prim.Native.Nat.{ℕ, _<_, _≤_}
 use mathlib.Core.List.{List}
 use native.Mathlib.Omega.{arith}
-use borrow.Author.Tests.{lt-ltb, le-ltb, ltb-false, eq-eqb, ne-eqb}
+use borrow.Author.Tests.{lt-ltb, le-ltb, ltb-false, eq-eqb, ne-eqb, eqb-false}
 use lib.Dec.{T, eqb, ltb}
 use lib.ListN.{length}
 use Rattle.circuit.proofs.Groups.{none}
 use Rattle.formats.specs.Octets.{badCodes, aboveFifteen}
 use Rattle.formats.specs.Format.{ACM, CATEGORY, INDICATORS, most}
 use Rattle.formats.specs.Messages.{formatOf, hasSignals, isIam, isAcm}
-use Rattle.formats.proofs.Formats.{signalsOfIam, acmMost, categoryMost, indicatorsMost}
+use Rattle.formats.proofs.ByHeading.{signalsOfIam, acmMost, categoryMost, indicatorsMost}
 use Rattle.writer.specs.Writing.{Said, tooLarge, badAddress}
 
 module _ (a b c d : Bool) where
@@ -103,6 +103,9 @@ module _ (m : Said) (e : tooLarge m ≡ false) where
   pub fitting : (m .acm ≤ most (formatOf (m .heading) .fields) ACM) × (m .category ≤ most (formatOf (m .heading) .fields) CATEGORY) × (m .indicators ≤ most (formatOf (m .heading) .fields) INDICATORS)
   fitting = (ltb-false _ _ (each .0), ltb-false _ _ (each .1), ltb-false _ _ (each .2))
 
+  pub fitting-address : d m ≡ false
+  fitting-address = each .3
+
   pub fitting-iam : m .heading ≡ 0x11 → (m .category ≤ 63) × (m .indicators ≤ 2047) × (aboveFifteen (m .address) ≡ false)
   fitting-iam i = (
     subst (λ (h : ℕ). m .category ≤ most (formatOf h .fields) CATEGORY) i (fitting .1),
@@ -113,14 +116,19 @@ module _ (m : Said) (e : tooLarge m ≡ false) where
 pub acm-fits : (h acm : ℕ) → h ≡ 0x14 → acm ≤ most (formatOf h .fields) ACM → acm ≤ 63
 acm-fits h acm e l = subst (λ (h : ℕ). acm ≤ most (formatOf h .fields) ACM) e l
 
-pub few : (address : List ℕ) → badAddress address ≡ false → length address ≤ 15
+-- an address that is in order
+pub in-order : (address : List ℕ) → badAddress address ≡ false → (length address ≡ 0 → ⊥) × (length address ≤ 15) × (badCodes address ≡ false)
 unfolding badAddress
-few address e = go (eqb (length address) 0) (ltb 15 (length address)) refl e
+in-order address e = go (eqb (length address) 0) refl (ltb 15 (length address)) refl e
   where
-    go : (x y : Bool) → ltb 15 (length address) ≡ y → (x || y || badCodes address) ≡ false → length address ≤ 15
-    go true y p q = absurd (subst T q tt)
-    go false true p q = absurd (subst T q tt)
-    go false false p q = ltb-false 15 (length address) p
+    go : (x : Bool) → eqb (length address) 0 ≡ x → (y : Bool) → ltb 15 (length address) ≡ y → (x || y || badCodes address) ≡ false
+        → (length address ≡ 0 → ⊥) × (length address ≤ 15) × (badCodes address ≡ false)
+    go true z y p q = absurd (subst T q tt)
+    go false z true p q = absurd (subst T q tt)
+    go false z false p q = (eqb-false (length address) 0 z, ltb-false 15 (length address) p, q)
+
+pub few : (address : List ℕ) → badAddress address ≡ false → length address ≤ 15
+few address e = in-order address e .1
 
 -- the tests of an address
 module _ (address : List ℕ) where

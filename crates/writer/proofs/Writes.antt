@@ -17,7 +17,7 @@ use Rattle.formats.specs.Format.{Format, octetsFrom}
 use Rattle.formats.specs.Messages.{iamFormat, amongOwn, ownFormats, headed, hasSignals, listed, isIam, isAcm, fixedLength, half}
 use Rattle.formats.specs.Octets.{aboveFifteen}
 use Rattle.formats.specs.Way.{pairs}
-use Rattle.formats.proofs.Formats.{anIam, anAcm, neither, signalsOfIam, fixedLengths}
+use Rattle.formats.proofs.ByHeading.{anIam, anAcm, neither, signalsOfIam, fixedLengths}
 use Rattle.formats.proofs.Lengths.{octet}
 use Rattle.formats.proofs.Places.{headPut, acmPut, nothingPut, iamPut}
 use Rattle.words.specs.Octets.{lowFirst, over}

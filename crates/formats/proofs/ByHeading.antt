@@ -6,10 +6,10 @@ use mathlib.Core.List.{List, [], _∷_}
 use Prim.Native.Nat.{ℕ, _+_}
 use native.Mathlib.Omega.{arith}
 use borrow.Author.Tests.{eqb-true}
-use lib.Dec.{T, eqb, ltb}
+use lib.Dec.{T, eqb}
 use Rattle.circuit.proofs.Every.{left, right, isTrue, alike, alikeSame}
-use Rattle.formats.specs.Format.{Format, ACM, CATEGORY, INDICATORS, COUNT, octetsFor, most, once}
-use Rattle.formats.specs.Messages.{acmFormat, iamFormat, iamHeading, acmHeading, Own, noFields, ownFormats, amongOwn, headed, formatOf, signalsBehind, hasSignals, fixedLength, isIam, isAcm, half}
+use Rattle.formats.specs.Format.{Name, Format, ACM, CATEGORY, INDICATORS, COUNT, octetsFor, most, once}
+use Rattle.formats.specs.Messages.{head, acmFormat, iamFormat, iamHeading, acmHeading, Own, noFields, ownFormats, amongOwn, headed, formatOf, signalsBehind, hasSignals, fixedLength, isIam, isAcm, half}
 
 -- ONE TEST OVER ALL OF THEM
 
@@ -36,6 +36,12 @@ byHeading P (o ∷ os) t h other = go (eqb h (o .heading)) refl (byHeading P os 
 same : (a b : ℕ) → T (eqb a b) → a ≡ b
 same a b t = eqb-true a b (isTrue (eqb a b) t)
 
+-- a field that the message with one heading has, and no other: the most that it may be
+onlyIn : (n : Name) (k m : ℕ) → T (everyOwn (λ h f. eqb (most (headed f .fields) n) (cond (eqb h k) m 0)) ownFormats) → T (eqb (most head n) 0)
+    → (h : ℕ) → (Other h ownFormats → eqb h k ≡ false) → most (formatOf h .fields) n ≡ cond (eqb h k) m 0
+onlyIn n k m t z h other =
+    same _ _ (byHeading (λ h f. eqb (most (headed f .fields) n) (cond (eqb h k) m 0)) ownFormats t h (λ o. subst (λ (b : Bool). T (eqb (most head n) (cond b m 0))) (sym (other o)) z))
+
 module _ (h : ℕ) where
   -- no field stands twice
   pub onceEach : T (once (formatOf h .fields))
@@ -47,13 +53,13 @@ module _ (h : ℕ) where
 
   -- the most that the fields may be
   pub acmMost : most (formatOf h .fields) ACM ≡ cond (isAcm h) 63 0
-  acmMost = same _ _ (byHeading (λ h f. eqb (most (headed f .fields) ACM) (cond (isAcm h) 63 0)) ownFormats tt h (λ other. subst (λ (b : Bool). T (eqb 0 (cond b 63 0))) (sym (other .1 .0)) tt))
+  acmMost = onlyIn ACM acmHeading 63 tt tt h (λ other. other .1 .0)
 
   pub categoryMost : most (formatOf h .fields) CATEGORY ≡ cond (isIam h) 63 0
-  categoryMost = same _ _ (byHeading (λ h f. eqb (most (headed f .fields) CATEGORY) (cond (isIam h) 63 0)) ownFormats tt h (λ other. subst (λ (b : Bool). T (eqb 0 (cond b 63 0))) (sym (other .0)) tt))
+  categoryMost = onlyIn CATEGORY iamHeading 63 tt tt h (λ other. other .0)
 
   pub indicatorsMost : most (formatOf h .fields) INDICATORS ≡ cond (isIam h) 2047 0
-  indicatorsMost = same _ _ (byHeading (λ h f. eqb (most (headed f .fields) INDICATORS) (cond (isIam h) 2047 0)) ownFormats tt h (λ other. subst (λ (b : Bool). T (eqb 0 (cond b 2047 0))) (sym (other .0)) tt))
+  indicatorsMost = onlyIn INDICATORS iamHeading 2047 tt tt h (λ other. other .0)
 
   -- and the count, where there are address signals to be counted
   pub countMost : most (formatOf h .fields) COUNT ≡ cond (hasSignals h) 15 0
@@ -105,15 +111,5 @@ countedLength h len n =
     ∙ ap (λ (k : ℕ). isIam h && not (eqb len k)) (octetsByHeading h n) ∙ go (isIam h)
   where
     go : (a : Bool) → (a && not (eqb len (cond a (9 + half n) (cond (isAcm h) 7 6)))) ≡ (a && not (eqb len (9 + half n)))
-    go true = refl
-    go false = refl
-
--- or that no message with the heading has
-pub unfitLength : (h len : ℕ) → cond (hasSignals h) (ltb len (fixedLength h)) (not (eqb len (fixedLength h))) ≡ cond (isIam h) (ltb len 9) (not (eqb len (cond (isAcm h) 7 6)))
-unfitLength h len =
-    ap (λ (b : Bool). cond b (ltb len (fixedLength h)) (not (eqb len (fixedLength h)))) (signalsOfIam h)
-    ∙ ap (λ (k : ℕ). cond (isIam h) (ltb len k) (not (eqb len k))) (fixedLengths h) ∙ go (isIam h)
-  where
-    go : (a : Bool) → cond a (ltb len (cond a 9 (cond (isAcm h) 7 6))) (not (eqb len (cond a 9 (cond (isAcm h) 7 6)))) ≡ cond a (ltb len 9) (not (eqb len (cond (isAcm h) 7 6)))
     go true = refl
     go false = refl
