@@ -1,16 +1,17 @@
 -- Address signals one after the other: what a loop over them has seen.
 -- Assumes nothing.
 use mathlib.Core.Path.{_≡_, refl, sym, ap, _∙_}
-use mathlib.Core.Bool.{Bool, true, false, _||_}
-use mathlib.Core.List.{List}
-use Prim.Native.Nat.{ℕ, suc, _+_, _-_, _<_, _≤_}
+use mathlib.Core.Bool.{Bool, true, false, cond, _||_}
+use mathlib.Core.List.{List, [], _∷_}
+use Prim.Native.Nat.{ℕ, suc, _+_, _-_, _<_, _≤_, compare·suc-suc}
+use native.Mathlib.Nat.{add-zero}
 use native.Mathlib.Numerals.{add-one}
 use native.Mathlib.Omega.{arith}
 use borrow.Author.Tests.{ltb-true, ltb-false, lt-ltb, le-ltb}
-use lib.Dec.{ltb}
+use lib.Dec.{ltb, isLe}
 use lib.ListN.{length, getD, drop, length-drop, drop-of-length-le}
 use lib.Seq.{drop-cons}
-use Rattle.formats.specs.Octets.{someSignal}
+use Rattle.formats.specs.Octets.{someSignal, beforeSignal}
 
 more : (s : List ℕ) (i : ℕ) → ltb 0 (length (drop (suc i) s)) ≡ ltb (i + 1) (length s)
 more s i = ap (ltb 0) (length-drop (suc i) s) ∙ go (ltb (i + 1) (length s)) refl
@@ -22,6 +23,12 @@ more s i = ap (ltb 0) (length-drop (suc i) s) ∙ go (ltb (i + 1) (length s)) re
 module _ (test : ℕ → Bool → Bool) (s : List ℕ) (i : ℕ) where
   turn : i < length s → someSignal test (drop i s) ≡ (test (getD s i 0) (ltb (i + 1) (length s)) || someSignal test (drop (i + 1) s))
   turn h = rw (drop-cons s i 0 h, more s i, add-one i)
+
+  abbrev fitting : Bool → ℕ
+  fitting b = cond b 0 (suc (beforeSignal test (drop (i + 1) s)))
+
+  next : i < length s → beforeSignal test (drop i s) ≡ fitting (test (getD s i 0) (ltb (i + 1) (length s)))
+  next h = rw (drop-cons s i 0 h, more s i, add-one i)
 
   -- a loop that has passed i signals, none of which the test fits, passes one more
   pub passes : i < length s → test (getD s i 0) (ltb (i + 1) (length s)) ≡ false → someSignal test s ≡ someSignal test (drop i s)
@@ -36,3 +43,24 @@ module _ (test : ℕ → Bool → Bool) (s : List ℕ) (i : ℕ) where
   -- it comes to the end
   pub ends : length s ≤ i → someSignal test s ≡ someSignal test (drop i s) → someSignal test s ≡ false
   ends h p = p ∙ ap (someSignal test) (drop-of-length-le s h)
+
+  -- the same of a loop that counts the signals before the first that the test fits
+  pub counts : i < length s → test (getD s i 0) (ltb (i + 1) (length s)) ≡ false → beforeSignal test s ≡ i + beforeSignal test (drop i s)
+      → beforeSignal test s ≡ i + 1 + beforeSignal test (drop (i + 1) s)
+  counts h e p = let q : beforeSignal test (drop i s) ≡ suc (beforeSignal test (drop (i + 1) s)) = next h ∙ ap fitting e in omega arith
+
+  pub counted : i < length s → test (getD s i 0) (ltb (i + 1) (length s)) ≡ true → beforeSignal test s ≡ i + beforeSignal test (drop i s) → beforeSignal test s ≡ i
+  counted h e p = let q : beforeSignal test (drop i s) ≡ 0 = next h ∙ ap fitting e in omega arith
+
+  pub countedAll : length s ≤ i → beforeSignal test s ≡ i + beforeSignal test (drop i s) → beforeSignal test s ≡ i
+  countedAll h p = p ∙ ap (λ (l : List ℕ). i + beforeSignal test l) (drop-of-length-le s h) ∙ add-zero i
+
+-- some signal is one that fewer than all stand before
+pub someBefore : (test : ℕ → Bool → Bool) (s : List ℕ) → someSignal test s ≡ ltb (beforeSignal test s) (length s)
+someBefore test [] = refl
+someBefore test (c ∷ rest) = go (test c (ltb 0 (length rest))) (someBefore test rest)
+  where
+    go : (b : Bool) → someSignal test rest ≡ ltb (beforeSignal test rest) (length rest)
+        → (b || someSignal test rest) ≡ ltb (cond b 0 (suc (beforeSignal test rest))) (suc (length rest))
+    go true e = sym (lt-ltb 0 (suc (length rest)) (omega arith))
+    go false e = e ∙ ap isLe (sym (compare·suc-suc (suc (beforeSignal test rest)) (length rest)))
