@@ -1,2 +1,3 @@
 pub mod Signals
 pub mod Bodies
+pub mod Faults
