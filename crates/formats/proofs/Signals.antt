@@ -1,9 +1,9 @@
 -- Address signals one after the other: what a loop over them has seen.
 -- Assumes nothing.
-use mathlib.Core.Path.{_≡_, refl, sym, ap, _∙_}
+use mathlib.Core.Path.{_≡_, refl, sym, ap, ap₂, _∙_}
 use mathlib.Core.Bool.{Bool, true, false, cond, _||_}
 use mathlib.Core.List.{List, [], _∷_}
-use Prim.Native.Nat.{ℕ, suc, _+_, _-_, _<_, _≤_, compare·suc-suc}
+use Prim.Native.Nat.{ℕ, zero, suc, _+_, _-_, _<_, _≤_, compare·suc-suc}
 use native.Mathlib.Nat.{add-zero}
 use native.Mathlib.Numerals.{add-one}
 use native.Mathlib.Omega.{arith}
@@ -55,6 +55,25 @@ module _ (test : ℕ → Bool → Bool) (s : List ℕ) (i : ℕ) where
   pub countedAll : length s ≤ i → beforeSignal test s ≡ i + beforeSignal test (drop i s) → beforeSignal test s ≡ i
   countedAll h p = p ∙ ap (λ (l : List ℕ). i + beforeSignal test l) (drop-of-length-le s h) ∙ add-zero i
 
+-- signal by signal: no signal is one that the test fits, and none is of those before the first
+shifted : (a b : ℕ) → ltb (suc a) (suc b) ≡ ltb a b
+shifted a b = ap isLe (compare·suc-suc (suc a) b)
+
+pub noneFits : (test : ℕ → Bool → Bool) (s : List ℕ) → ((j : ℕ) → j < length s → test (getD s j 0) (ltb (suc j) (length s)) ≡ false) → someSignal test s ≡ false
+noneFits test [] h = refl
+noneFits test (c ∷ rest) h =
+    ap₂ _||_ (ap (test c) (sym (shifted 0 (length rest))) ∙ h 0 (omega arith))
+    (noneFits test rest (λ j l. ap (test (getD rest j 0)) (sym (shifted (suc j) (length rest))) ∙ h (suc j) (omega arith)))
+
+pub noneBefore : (test : ℕ → Bool → Bool) (s : List ℕ) (j : ℕ) → j < beforeSignal test s → test (getD s j 0) (ltb (suc j) (length s)) ≡ false
+noneBefore test [] j l = absurd (omega arith)
+noneBefore test (c ∷ rest) j l = go (test c (ltb 0 (length rest))) refl j l
+  where
+    go : (b : Bool) → test c (ltb 0 (length rest)) ≡ b → (j : ℕ) → j < cond b 0 (suc (beforeSignal test rest)) → test (getD (c ∷ rest) j 0) (ltb (suc j) (suc (length rest))) ≡ false
+    go true e j l = absurd (omega arith)
+    go false e zero l = ap (test c) (shifted 0 (length rest)) ∙ e
+    go false e (suc j) l = ap (test (getD rest j 0)) (shifted (suc j) (length rest)) ∙ noneBefore test rest j (omega arith)
+
 -- some signal is one that fewer than all stand before
 pub someBefore : (test : ℕ → Bool → Bool) (s : List ℕ) → someSignal test s ≡ ltb (beforeSignal test s) (length s)
 someBefore test [] = refl
@@ -63,4 +82,4 @@ someBefore test (c ∷ rest) = go (test c (ltb 0 (length rest))) (someBefore tes
     go : (b : Bool) → someSignal test rest ≡ ltb (beforeSignal test rest) (length rest)
         → (b || someSignal test rest) ≡ ltb (cond b 0 (suc (beforeSignal test rest))) (suc (length rest))
     go true e = sym (lt-ltb 0 (suc (length rest)) (omega arith))
-    go false e = e ∙ ap isLe (sym (compare·suc-suc (suc (beforeSignal test rest)) (length rest)))
+    go false e = e ∙ sym (shifted (beforeSignal test rest) (length rest))

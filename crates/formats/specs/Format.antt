@@ -76,8 +76,8 @@ bitsBefore (field m w ∷ fs) n = cond (same m n) 0 (w + bitsBefore fs n)
 bitsBefore (spare w ∷ fs) n = w + bitsBefore fs n
 
 -- the octet in which a field begins, the first one being 0
-abbrev pub octetOf : List Field → Name → ℕ
-octetOf fs n = bitsBefore fs n / 8
+abbrev pub fieldOctet : List Field → Name → ℕ
+fieldOctet fs n = bitsBefore fs n / 8
 
 -- and the octet in which a signal behind the fields begins, the first one being 0
 abbrev pub signalOctet : Format → (signal : ℕ) → ℕ

@@ -3,16 +3,17 @@
 use mathlib.Core.Path.{_≡_, refl, sym, ap, ap₂, _∙_}
 use mathlib.Core.Bool.{Bool, true, false, cond}
 use mathlib.Core.List.{List, [], _∷_}
+use mathlib.Core.Logic.{_↔_}
 use Prim.Native.Nat.{ℕ, zero, suc, _/_, _%_, _≤_, min}
 use native.Mathlib.Omega.{arith}
 use lib.Dec.{ltb, lit≤}
 use lib.ListN.{length}
-use Rattle.circuit.specs.Refusals.{refuse, Rule, firstOf}
-use Rattle.circuit.proofs.Refusals.{clear, beforeThem, afterThem}
+use Rattle.circuit.specs.Refusals.{refuse, Rule, firstOf, Clear}
+use Rattle.circuit.proofs.Refusals.{clear, noneGiven, beforeThem, afterThem}
 use Rattle.reader.specs.declared.Fields.{Fields}
 use Rattle.reader.specs.Faults.{Fault, fault, placeOf}
 use Rattle.reader.specs.Reading.{readFaults, readRules, fieldsOf}
-use Rattle.reader.proofs.Faults.{readRefusal, readPlace, placeBefore, placeAfter}
+use Rattle.reader.proofs.Faults.{readRefusal, readPlace, noPlace, placeBefore, placeAfter}
 use Rattle.writer.specs.Writing.{Said, octetsOf, writeRules, putting, writing}
 use Rattle.tup.specs.Entries.{fieldsOctets, mostPlace, packedRefusal, Told, telling, readInto, writeFrom}
 use Rattle.words.specs.Octets.{over}
@@ -67,6 +68,10 @@ module _ (own far count : ℕ) (xs buffer : List ℕ) where
 
   pub intoPlace : readInto own far count xs buffer .answer / 256 ≡ min (placeOf (intoFaults own far count xs (length buffer))) mostPlace
   intoPlace = let a = intoAnswer in let h = numbers in omega arith
+
+  -- nothing is refused exactly where nothing is found
+  pub intoTaken : (readInto own far count xs buffer .answer ≡ 0) ↔ Clear (intoRules own far count xs (length buffer))
+  intoTaken = (λ e. let r = intoRefusal in clear (intoRules own far count xs (length buffer)) tt (omega arith), λ c. intoAnswer ∙ ap₂ packedRefusal (noneGiven (intoRules own far count xs (length buffer)) c) (noPlace (intoFaults own far count xs (length buffer)) c))
 
 -- the writer's refusal is the first of its rules that holds
 pub refusalOf : (n : ℕ) (xs buffer : List ℕ) → putting n xs buffer .answer .refusal ≡ n

@@ -12,7 +12,7 @@ use lib.Seq.{length-take-le, take-at, getD-drop}
 use Rattle.circuit.specs.Groups.{badGroup}
 use Rattle.circuit.specs.declared.Cic.{Cic}
 use Rattle.reader.specs.declared.Fields.{Fields}
-use Rattle.formats.specs.Format.{Format, octetsFor, octetOf, signalOctet, CATEGORY, INDICATORS, COUNT, above, getEach, contentIn}
+use Rattle.formats.specs.Format.{Format, octetsFor, fieldOctet, signalOctet, CATEGORY, INDICATORS, COUNT, above, getEach, contentIn}
 use Rattle.formats.specs.Messages.{iamFormat, amongOwn, ownFormats, headed, formatOf, hasSignals, fixedLength, listed, isIam, isAcm, half}
 use Rattle.formats.specs.Octets.{badCode, badCodes, firstBad}
 use Rattle.formats.specs.Way.{halves}
@@ -74,7 +74,7 @@ module _ (records h : ℕ) (xs : List ℕ) (other : isIam h ≡ false) where
   fit = ap (λ (t : Bool). cond t (ltb (length xs) (fixedLength h)) (not (eqb (length xs) (fixedLength h)))) alone
 
   abbrev c₂ : ℕ
-  c₂ = octetOf (formatOf h .fields) COUNT
+  c₂ = fieldOctet (formatOf h .fields) COUNT
 
   abbrev c₄ : ℕ
   c₄ = signalOctet (formatOf h) (firstBad (signalsBy (formatOf h) xs))

@@ -13,7 +13,7 @@ use Rattle.reader.specs.declared.Reading.{Reading}
 use Rattle.circuit.specs.Refusals.{Rule}
 use Rattle.formats.specs.Octets.{badCodes, firstBad}
 use Rattle.words.specs.Octets.{over}
-use Rattle.formats.specs.Format.{Format, Content, octetsFor, octetOf, signalOctet, contentIn, DPC, OPC, CIC, HEADING, ACM, CATEGORY, INDICATORS, COUNT}
+use Rattle.formats.specs.Format.{Format, Content, octetsFor, fieldOctet, signalOctet, contentIn, DPC, OPC, CIC, HEADING, ACM, CATEGORY, INDICATORS, COUNT}
 use Rattle.formats.specs.Messages.{head, formatOf, signalsBehind, listed}
 use Rattle.reader.specs.Faults.{Fault, fault, rulesOf}
 use Rattle.reader.specs.Places.{dpcIn, opcIn, cicIn, headingIn, fieldBy, signalsBy}
@@ -32,22 +32,22 @@ unfit heading len = unfitBy (formatOf heading) len
 
 -- where a label is wrong: at DPC, and where that is right at OPC
 abbrev pub strayOctet : ℕ → List ℕ → ℕ
-strayOctet own xs = cond (eqb (dpcIn xs) own) (octetOf head OPC) (octetOf head DPC)
+strayOctet own xs = cond (eqb (dpcIn xs) own) (fieldOctet head OPC) (fieldOctet head DPC)
 
 -- what is wrong with a message by its format, label and heading being in order
 abbrev pub formatFaults : (records : ℕ) → Format → List ℕ → List Fault
 formatFaults records f xs =
     fault 7 (unfitBy f (length xs)) (length xs)
-    ∷ fault 10 (signalsBehind (f .behind) && eqb (fieldBy f COUNT xs) 0) (octetOf (f .fields) COUNT)
+    ∷ fault 10 (signalsBehind (f .behind) && eqb (fieldBy f COUNT xs) 0) (fieldOctet (f .fields) COUNT)
     ∷ fault 7 (signalsBehind (f .behind) && not (eqb (length xs) (octetsFor f (fieldBy f COUNT xs)))) (length xs)
     ∷ fault 10 (signalsBehind (f .behind) && badCodes (signalsBy f xs)) (signalOctet f (firstBad (signalsBy f xs)))
-    ∷ fault 2 (leb records (cicIn xs)) (octetOf head CIC)
+    ∷ fault 2 (leb records (cicIn xs)) (fieldOctet head CIC)
     ∷ []
 
 -- with a message whose label is in order, by its heading
 abbrev pub bodyFaults : (records heading : ℕ) → List ℕ → List Fault
 bodyFaults records heading xs =
-    fault 9 (not (listed heading)) (octetOf head HEADING)
+    fault 9 (not (listed heading)) (fieldOctet head HEADING)
     ∷ formatFaults records (formatOf heading) xs
 
 -- what the reader looks for, in order: the refusal, its test, and the place that it names, which is the position of an octet, of a wrong length the
