@@ -67,12 +67,13 @@ noneFits test (c ∷ rest) h =
 
 pub noneBefore : (test : ℕ → Bool → Bool) (s : List ℕ) (j : ℕ) → j < beforeSignal test s → test (getD s j 0) (ltb (suc j) (length s)) ≡ false
 noneBefore test [] j l = absurd (omega arith)
-noneBefore test (c ∷ rest) j l = go (test c (ltb 0 (length rest))) refl j l
+noneBefore test (c ∷ rest) j l = go (noneBefore test rest) (test c (ltb 0 (length rest))) refl j l
   where
-    go : (b : Bool) → test c (ltb 0 (length rest)) ≡ b → (j : ℕ) → j < cond b 0 (suc (beforeSignal test rest)) → test (getD (c ∷ rest) j 0) (ltb (suc j) (suc (length rest))) ≡ false
-    go true e j l = absurd (omega arith)
-    go false e zero l = ap (test c) (shifted 0 (length rest)) ∙ e
-    go false e (suc j) l = ap (test (getD rest j 0)) (shifted (suc j) (length rest)) ∙ noneBefore test rest j (omega arith)
+    go : ((j : ℕ) → j < beforeSignal test rest → test (getD rest j 0) (ltb (suc j) (length rest)) ≡ false)
+        → (b : Bool) → test c (ltb 0 (length rest)) ≡ b → (j : ℕ) → j < cond b 0 (suc (beforeSignal test rest)) → test (getD (c ∷ rest) j 0) (ltb (suc j) (suc (length rest))) ≡ false
+    go more true e j l = absurd (omega arith)
+    go more false e zero l = ap (test c) (shifted 0 (length rest)) ∙ e
+    go more false e (suc j) l = ap (test (getD rest j 0)) (shifted (suc j) (length rest)) ∙ more j (omega arith)
 
 -- some signal is one that fewer than all stand before
 pub someBefore : (test : ℕ → Bool → Bool) (s : List ℕ) → someSignal test s ≡ ltb (beforeSignal test s) (length s)

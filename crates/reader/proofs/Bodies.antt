@@ -100,7 +100,7 @@ module _ (records h : ℕ) (xs : List ℕ) (other : isIam h ≡ false) where
   unfolding bodyOf
   beyond e n r = at5 (fieldsIn h xs) (length xs) c₂ c₄ (not (listed h)) (unfit h (length xs)) o₂ o₃ o₄ (leb records (cicIn xs)) (ap not e) (fit ∙ ap not (eq-eqb _ _ n)) (never _) (never _) (never _) (le-leb _ _ r)
 
-  taken : listed h ≡ true → length xs ≡ fixedLength h → cicIn xs < records → bodyOf records h xs ≡ fieldsIn h xs
+  pub taken : listed h ≡ true → length xs ≡ fixedLength h → cicIn xs < records → bodyOf records h xs ≡ fieldsIn h xs
   unfolding bodyOf
   taken e n r =
       at6 (fieldsIn h xs) (length xs) c₂ c₄ (not (listed h)) (unfit h (length xs)) o₂ o₃ o₄ (leb records (cicIn xs)) (ap not e) (fit ∙ ap not (eq-eqb _ _ n)) (never _) (never _) (never _) (lt-leb _ _ r)
@@ -185,7 +185,7 @@ module _ (records : ℕ) (xs : List ℕ) where
         unfolding bodyOf
         iam-beyond b r = at5 (fieldsIn 0x11 xs) (length xs) 8 s₄ false t₁ t₂ t₃ t₄ t₅ refl (le-ltb _ _ h) (ne-eqb _ _ z) (ap not (eq-eqb _ _ n)) b (le-leb _ _ r)
 
-        iam-taken : badCodes address ≡ false → cicIn xs < records → bodyOf records 0x11 xs ≡ fieldsIn 0x11 xs
+        pub iam-taken : badCodes address ≡ false → cicIn xs < records → bodyOf records 0x11 xs ≡ fieldsIn 0x11 xs
         unfolding bodyOf
         iam-taken b r = at6 (fieldsIn 0x11 xs) (length xs) 8 s₄ false t₁ t₂ t₃ t₄ t₅ refl (le-ltb _ _ h) (ne-eqb _ _ z) (ap not (eq-eqb _ _ n)) b (lt-leb _ _ r)
 

@@ -1,3 +1,4 @@
 pub mod Signals
 pub mod Bodies
 pub mod Faults
+pub mod Stands
