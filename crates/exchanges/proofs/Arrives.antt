@@ -3,7 +3,7 @@
 use mathlib.Core.Path.{_≡_, refl, sym, ap, _∙_, subst}
 use mathlib.Core.Bool.{Bool, true, false, cond}
 use mathlib.Core.List.{List, [], _∷_, _++_, append-nil}
-use Prim.Native.Nat.{ℕ, zero, suc, _^_, _<_, _≤_}
+use Prim.Native.Nat.{ℕ, _^_, _<_, _≤_}
 use native.Mathlib.Omega.{arith}
 use borrow.Author.Tests.{eq-eqb, ne-eqb, eqb-true, eqb-false, leb-false}
 use lib.Dec.{T, eqb, leb, le→leb, lit≤}
@@ -11,7 +11,7 @@ use lib.ListN.{length, replicate}
 use Rattle.circuit.specs.declared.Record.{Record}
 use Rattle.circuit.specs.declared.Signal.{Signal}
 use Rattle.circuit.specs.Groups.{controls}
-use Rattle.circuit.specs.Refusals.{firstOf, Clear}
+use Rattle.circuit.specs.Refusals.{Clear}
 use Rattle.circuit.proofs.Refusals.{clear}
 use Rattle.circuit.proofs.Every.{isTrue}
 use Rattle.codes.specs.declared.Named.{Named}

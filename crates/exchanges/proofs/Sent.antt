@@ -3,7 +3,7 @@
 use mathlib.Core.Path.{_≡_, refl, sym, ap, _∙_}
 use mathlib.Core.Bool.{Bool, true, false, cond, not, _&&_}
 use mathlib.Core.List.{List, [], _∷_}
-use Prim.Native.Nat.{ℕ, zero, suc, _+_, _/_, _%_, _<_, _≤_}
+use Prim.Native.Nat.{ℕ, _+_, _/_, _%_, _<_, _≤_}
 use native.Mathlib.Omega.{arith}
 use borrow.Author.Tests.{le-ltb, eq-eqb}
 use lib.Dec.{T, eqb, leb, ltb, leb→le, lit≤}
@@ -22,7 +22,7 @@ use Rattle.codes.specs.Headings.{headingOf, signalOf}
 use Rattle.formats.specs.Octets.{aboveFifteen}
 use Rattle.formats.specs.Messages.{hasSignals, listed, half}
 use Rattle.reader.specs.declared.Fields.{Fields}
-use Rattle.reader.specs.Places.{cicIn, headingIn}
+use Rattle.reader.specs.Places.{cicIn}
 use Rattle.reader.specs.Reading.{fieldsOf, reading}
 use Rattle.reader.proofs.Faults.{readRefusal, readFields}
 use Rattle.writer.specs.Writing.{Said, tooLarge, badAddress, octetsOf, writeRules}

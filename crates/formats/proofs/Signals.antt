@@ -84,3 +84,19 @@ someBefore test (c ∷ rest) = go (test c (ltb 0 (length rest))) (someBefore tes
         → (b || someSignal test rest) ≡ ltb (cond b 0 (suc (beforeSignal test rest))) (suc (length rest))
     go true e = sym (lt-ltb 0 (suc (length rest)) (omega arith))
     go false e = e ∙ sym (shifted (beforeSignal test rest) (length rest))
+
+-- so where none is, each is none, and where some is, the first is one
+pub eachPasses : (test : ℕ → Bool → Bool) (s : List ℕ) → someSignal test s ≡ false → (j : ℕ) → j < length s → test (getD s j 0) (ltb (suc j) (length s)) ≡ false
+eachPasses test s e j l = let h : length s ≤ beforeSignal test s = ltb-false _ _ (sym (someBefore test s) ∙ e) in noneBefore test s j (omega arith)
+
+pub firstFits : (test : ℕ → Bool → Bool) (s : List ℕ) → beforeSignal test s < length s → test (getD s (beforeSignal test s) 0) (ltb (suc (beforeSignal test s)) (length s)) ≡ true
+firstFits test [] l = absurd (omega arith)
+firstFits test (c ∷ rest) l = go (firstFits test rest) (test c (ltb 0 (length rest))) refl l
+  where
+    place : Bool → ℕ
+    place b = cond b 0 (suc (beforeSignal test rest))
+
+    go : (beforeSignal test rest < length rest → test (getD rest (beforeSignal test rest) 0) (ltb (suc (beforeSignal test rest)) (length rest)) ≡ true)
+        → (b : Bool) → test c (ltb 0 (length rest)) ≡ b → place b < suc (length rest) → test (getD (c ∷ rest) (place b) 0) (ltb (suc (place b)) (suc (length rest))) ≡ true
+    go more true e l = ap (test c) (shifted 0 (length rest)) ∙ e
+    go more false e l = ap (test (getD rest (beforeSignal test rest) 0)) (shifted (suc (beforeSignal test rest)) (length rest)) ∙ more (omega arith)

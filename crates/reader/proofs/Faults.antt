@@ -6,12 +6,13 @@ use mathlib.Core.List.{List, [], _∷_, _++_}
 use Prim.Native.Nat.{ℕ, suc}
 use native.Mathlib.Omega.{arith}
 use lib.Dec.{T}
+use lib.ListN.{length}
 use Rattle.circuit.specs.Refusals.{firstOf, Clear}
 use Rattle.circuit.proofs.Refusals.{clear}
 use Rattle.reader.specs.declared.Fields.{Fields}
 use Rattle.reader.specs.Faults.{Fault, fault, rulesOf, placeOf}
 use Rattle.reader.specs.Places.{headingIn}
-use Rattle.reader.specs.Reading.{readFaults, readRules, fieldsIn, judged, fieldsOf}
+use Rattle.reader.specs.Reading.{readFaults, readRules, refused, fieldsIn, judged, fieldsOf}
 
 -- a test that is made only of some messages holds: of those
 pub bothHold : (a : Bool) {b : Bool} → (a && b) ≡ true → (a ≡ true) × (b ≡ true)
@@ -65,6 +66,16 @@ like (r ∷ faults) [] e = absurd e
 like (fault n true place ∷ faults) (fault k b other ∷ others) e = e .1 refl ∙ ap (λ (t : Bool). cond t other (placeOf others)) (e .0)
 like (fault n false place ∷ faults) (fault k b other ∷ others) e = like faults others (e .2) ∙ ap (λ (t : Bool). cond t other (placeOf others)) (e .0)
 
+-- What holds for each fault, found where none before it is, and for none, holds for the answer.
+abbrev pub Cases : (Fields → Type 0) → List Fault → Fields → Type 0
+Cases P [] f = P f
+Cases P (fault n found place ∷ faults) f = (found ≡ true → P (refused n place)) × (found ≡ false → Cases P faults f)
+
+pub cases : (P : Fields → Type 0) (faults : List Fault) (f : Fields) → Cases P faults f → P (judged faults f)
+cases P [] f c = c
+cases P (fault n true place ∷ faults) f c = c .0 refl
+cases P (fault n false place ∷ faults) f c = cases P faults f (c .1 refl)
+
 module _ (own far records : ℕ) (xs : List ℕ) where
   -- the reader's refusal is the first of its rules that holds, and the place is that rule's
   pub readRefusal : fieldsOf own far records xs .refusal ≡ firstOf (readRules own far records xs)
@@ -79,3 +90,23 @@ module _ (own far records : ℕ) (xs : List ℕ) where
   pub readFields : firstOf (readRules own far records xs) ≡ 0 → fieldsOf own far records xs ≡ fieldsIn (headingIn xs) xs
   unfolding fieldsOf
   readFields e = givesFields (fieldsIn (headingIn xs) xs) (readFaults own far records xs) (clear (readRules own far records xs) tt e)
+
+  -- the place of a wrong length is the length
+  pub lengthPlace : fieldsOf own far records xs .refusal ≡ 7 → fieldsOf own far records xs .place ≡ length xs
+  unfolding fieldsOf
+  lengthPlace = cases Lengthy (readFaults own far records xs) (fieldsIn (headingIn xs) xs) (
+    (λ e n. absurd (omega arith)),
+    (λ e. (
+      (λ e n. refl),
+      (λ e. ((λ e n. absurd (omega arith)), (λ e. ((λ e n. absurd (omega arith)), (λ e. (
+        (λ e n. refl),
+        (λ e. ((λ e n. absurd (omega arith)), (λ e. (
+          (λ e n. refl),
+          (λ e. ((λ e n. absurd (omega arith)), (λ e. ((λ e n. absurd (omega arith)), (λ e n. absurd (omega arith)))))),
+        )))),
+      )))))),
+    )),
+  )
+    where
+      Lengthy : Fields → Type 0
+      Lengthy f = f .refusal ≡ 7 → f .place ≡ length xs

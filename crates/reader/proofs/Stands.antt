@@ -5,9 +5,9 @@ use mathlib.Core.Bool.{Bool, true, false, cond, not, _&&_, _||_}
 use mathlib.Core.List.{List, [], _∷_, _++_}
 use Prim.Native.Nat.{ℕ, zero, suc, _+_, _*_, _-_, _/_, _%_, _<_, _≤_}
 use native.Mathlib.Omega.{arith}
-use borrow.Author.Tests.{ltb-true, ltb-false, lt-ltb, le-ltb, eq-eqb, ne-eqb, eqb-true, eqb-false, lt-leb, not-false}
-use lib.Dec.{T, eqb, ltb, leb}
-use lib.ListN.{length, getD, take, replicate, length-append, length-replicate, getD-replicate, List·getD-append, List·getD-eq-default}
+use borrow.Author.Tests.{ltb-true, ltb-false, eq-eqb, eqb-true, eqb-false, lt-leb, not-false}
+use lib.Dec.{T, eqb, ltb}
+use lib.ListN.{length, getD, take, replicate, length-append, length-replicate, List·getD-append}
 use lib.Seq.{length-take-le, take-at, getD-take, getD-append-add, take-suc}
 use Rattle.circuit.specs.Groups.{badGroup}
 use Rattle.circuit.proofs.Groups.{inRange, turned}
@@ -15,65 +15,41 @@ use Rattle.circuit.proofs.Refusals.{noneGiven}
 use Rattle.reader.specs.declared.Fields.{Fields}
 use Rattle.words.specs.Octets.{numberOf}
 use Rattle.formats.specs.Format.{COUNT, octetsFor, fieldOctet, signalOctet}
-use Rattle.formats.specs.Messages.{formatOf, half, hasSignals, listed}
+use Rattle.formats.specs.Messages.{formatOf, half, hasSignals}
 use Rattle.formats.specs.Octets.{badCode, badCodes, firstBad}
-use Rattle.formats.proofs.Format.{gotFits}
-use Rattle.formats.proofs.ByHeading.{iamOctets, signalsOfIam, signalOctets, countOctet}
-use Rattle.formats.proofs.Places.{dpcThere, opcThere, cicThere, headingThere, countThere, iamSignal}
+use Rattle.formats.proofs.ByHeading.{iamOctets, signalOctets, countOctet}
+use Rattle.formats.proofs.Places.{dpcThere, opcThere, headingThere}
 use Rattle.formats.proofs.Signals.{noneFits, noneBefore, someBefore}
-use Rattle.reader.specs.Places.{dpcIn, opcIn, cicIn, headingIn, fieldBy, signalsBy}
-use Rattle.reader.specs.Faults.{Fault, fault}
-use Rattle.reader.specs.Reading.{elsewhere, unfit, strayOctet, readFaults, readRules, refused, fieldsIn, judged, fieldsOf}
+use Rattle.reader.specs.Places.{dpcIn, cicIn, headingIn, fieldBy, signalsBy}
+use Rattle.reader.specs.Reading.{elsewhere, unfit, strayOctet, readFaults, readRules, refused, fieldsIn, fieldsOf}
 use Rattle.reader.specs.Stands.{CouldStand}
 use Rattle.reader.specs.Way.{bodyOf}
 use Rattle.reader.proofs.Bodies.{ours-read, taken, iam-taken}
-use Rattle.reader.proofs.Faults.{bothHold, readRefusal}
+use Rattle.reader.proofs.Faults.{bothHold, cases, readRefusal}
+use Rattle.reader.proofs.ByLetter.{wordIn, signalIn, allCircuits, address, counted, long, its, iamIn}
 
--- THE OCTETS OF A MESSAGE, BY THE LETTER
+-- MESSAGES THAT ARE READ
 
--- the two octets of an IAM's indicators and count, and a signal
-abbrev wordIn : List ℕ → ℕ
-wordIn ys = numberOf (getD ys 7 0 ∷ getD ys 8 0 ∷ [])
+module _ (ys : List ℕ) (octets : (i : ℕ) → getD ys i 0 < 256) (own far : ℕ) (good : badGroup own far 4096 ≡ false) (ours : elsewhere own far ys ≡ false) where
+  -- a message that has no fields of (its ys octets) own is read
+  plainRead : length ys ≡ 6 → getD ys 5 0 ≡ 0x46 → fieldsOf own far 4096 ys .refusal ≡ 0
+  plainRead n h =
+      ap (λ (f : Fields). f .refusal)
+      (ours-read own far 4096 ys good (omega arith) ours octets ∙ ap (λ (k : ℕ). bodyOf 4096 k ys) h ∙ taken 4096 0x46 ys refl refl n (allCircuits ys octets))
 
-abbrev signalIn : List ℕ → ℕ → ℕ
-signalIn ys j = cond (eqb (j % 2) 0) (getD ys (9 + j / 2) 0 % 16) (getD ys (9 + j / 2) 0 / 16)
-
-module _ (ys : List ℕ) (octets : (i : ℕ) → getD ys i 0 < 256) where
-  allCircuits : cicIn ys < 4096
-  allCircuits = rw (cicThere ys octets) (omega (arith, octets 0, octets 1, octets 2, octets 3, octets 4))
-
-  abbrev address : List ℕ
-  address = signalsBy (formatOf 0x11) ys
-
-  counted : fieldBy (formatOf 0x11) COUNT ys ≡ wordIn ys / 4096
-  counted = countThere ys octets
-
-  long : length address ≡ wordIn ys / 4096
-  long = sym (gotFits (formatOf 0x11) (numberOf ys) .counted) ∙ counted
-
-  its : (j : ℕ) → j < wordIn ys / 4096 → getD address j 0 ≡ signalIn ys j
-  its j l = iamSignal ys octets j (subst (λ (k : ℕ). j < k) (sym counted) l)
-
-  module _ (own far : ℕ) (good : badGroup own far 4096 ≡ false) (ours : elsewhere own far ys ≡ false) where
-    -- a message that has no fields of its own is read
-    plainRead : length ys ≡ 6 → getD ys 5 0 ≡ 0x46 → fieldsOf own far 4096 ys .refusal ≡ 0
-    plainRead n h =
-        ap (λ (f : Fields). f .refusal)
-        (ours-read own far 4096 ys good (omega arith) ours octets ∙ ap (λ (k : ℕ). bodyOf 4096 k ys) h ∙ taken 4096 0x46 ys refl refl n allCircuits)
-
-    -- and an IAM with a count of signals that are in order, and no octets more or fewer than they take
-    iamRead : getD ys 5 0 ≡ 0x11 → (wordIn ys / 4096 ≡ 0 → ⊥) → length ys ≡ 9 + half (wordIn ys / 4096)
-        → ((j : ℕ) → j < wordIn ys / 4096 → badCode (signalIn ys j) (ltb (suc j) (wordIn ys / 4096)) ≡ false)
-        → fieldsOf own far 4096 ys .refusal ≡ 0
-    iamRead h some n fine =
-        ap (λ (f : Fields). f .refusal)
-        (ours-read own far 4096 ys good (omega arith) ours octets ∙ ap (λ (k : ℕ). bodyOf 4096 k ys) h
-        ∙ iam-taken 4096 ys (omega arith) (λ z. some (sym counted ∙ z)) (n ∙ sym (iamOctets (wordIn ys / 4096)) ∙ ap (octetsFor (formatOf 0x11)) (sym counted)) inOrder allCircuits)
-      where
-        inOrder : badCodes address ≡ false
-        inOrder = noneFits badCode address (λ j l.
-            let k : j < wordIn ys / 4096 = subst (λ (m : ℕ). j < m) long l in
-            ap₂ badCode (its j k) (ap (ltb (suc j)) long) ∙ fine j k)
+  -- and an IAM with a count of signals that are in order, and no octets more or fewer than they take
+  iamRead : getD ys 5 0 ≡ 0x11 → (wordIn ys / 4096 ≡ 0 → ⊥) → length ys ≡ 9 + half (wordIn ys / 4096)
+      → ((j : ℕ) → j < wordIn ys / 4096 → badCode (signalIn ys j) (ltb (suc j) (wordIn ys / 4096)) ≡ false)
+      → fieldsOf own far 4096 ys .refusal ≡ 0
+  iamRead h some n fine =
+      ap (λ (f : Fields). f .refusal)
+      (ours-read own far 4096 ys good (omega arith) ours octets ∙ ap (λ (k : ℕ). bodyOf 4096 k ys) h
+      ∙ iam-taken 4096 ys (omega arith) (λ z. some (sym (counted ys octets) ∙ z)) (n ∙ sym (iamOctets (wordIn ys / 4096)) ∙ ap (octetsFor (formatOf 0x11)) (sym (counted ys octets))) inOrder (allCircuits ys octets))
+    where
+      inOrder : badCodes (address ys octets) ≡ false
+      inOrder = noneFits badCode (address ys octets) (λ j l.
+          let k : j < wordIn ys / 4096 = subst (λ (m : ℕ). j < m) (long ys octets) l in
+          ap₂ badCode (its ys octets j k) (ap (ltb (suc j)) (long ys octets)) ∙ fine j k)
 
 -- OTHER OCTETS BEHIND THE FIRST
 
@@ -286,16 +262,6 @@ module _ (own far : ℕ) (good : badGroup own far 4096 ≡ false) where
 ofThese : {a b : Bool} → a ≡ true → (a && b) ≡ false → b ≡ false
 ofThese {a} {b} e n = subst (λ (t : Bool). (t && b) ≡ false) e n
 
--- a proof for each fault that is found where none before it was, and for none
-abbrev Cases : (Fields → Type 0) → List Fault → Fields → Type 0
-Cases P [] f = P f
-Cases P (fault n found place ∷ faults) f = (found ≡ true → P (refused n place)) × (found ≡ false → Cases P faults f)
-
-cases : (P : Fields → Type 0) (faults : List Fault) (f : Fields) → Cases P faults f → P (judged faults f)
-cases P [] f c = c
-cases P (fault n true place ∷ faults) f c = c .0 refl
-cases P (fault n false place ∷ faults) f c = cases P faults f (c .1 refl)
-
 module _ (own far records : ℕ) (xs : List ℕ) (octets : (i : ℕ) → getD xs i 0 < 256) (group : badGroup own far records ≡ false) where
   good : badGroup own far 4096 ≡ false
   good = turned far own 4096 4096 (turned own far records 4096 group refl) refl
@@ -305,10 +271,6 @@ module _ (own far records : ℕ) (xs : List ℕ) (octets : (i : ℕ) → getD xs
 
   abbrev h : ℕ
   h = headingIn xs
-
-  -- a message with address signals is an IAM
-  anIam : hasSignals h ≡ true → h ≡ 0x11
-  anIam e = eqb-true h 0x11 (sym (signalsOfIam h) ∙ e)
 
   module _ (six : ltb (length xs) 6 ≡ false) where
     atLabel : Stands (refused 8 (strayOctet own xs))
@@ -321,10 +283,10 @@ module _ (own far records : ℕ) (xs : List ℕ) (octets : (i : ℕ) → getD xs
     module _ (ours : elsewhere own far xs ≡ false) (fit : unfit h (length xs) ≡ false) where
       module _ (signals : hasSignals h ≡ true) where
         nine : 9 ≤ length xs
-        nine = ltb-false (length xs) 9 (subst (λ (k : ℕ). unfit k (length xs) ≡ false) (anIam signals) fit)
+        nine = ltb-false (length xs) 9 (subst (λ (k : ℕ). unfit k (length xs) ≡ false) (iamIn xs signals) fit)
 
         its-heading : getD xs 5 0 ≡ 0x11
-        its-heading = sym (headingThere xs octets) ∙ anIam signals
+        its-heading = sym (headingThere xs octets) ∙ iamIn xs signals
 
         counting : Stands (refused 10 (fieldOctet (formatOf h .fields) COUNT))
         counting n =
@@ -340,7 +302,7 @@ module _ (own far records : ℕ) (xs : List ℕ) (octets : (i : ℕ) → getD xs
             → Stands (refused 10 (signalOctet (formatOf k) (firstBad (signalsBy (formatOf k) xs))))
 
         spelling : Spells h
-        spelling = subst Spells (sym (anIam signals)) (λ some n bad u.
+        spelling = subst Spells (sym (iamIn xs signals)) (λ some n bad u.
             let m : wordIn xs / 4096 ≡ 0 → ⊥ = λ z. eqb-false _ _ some (counted xs octets ∙ z) in
             let l : length xs ≡ 9 + half (wordIn xs / 4096) = eqb-true _ _ (not-false _ n) ∙ iamOctets (fieldBy (formatOf 0x11) COUNT xs) ∙ ap (λ (v : ℕ). 9 + half v) (counted xs octets) in
             subst (λ (p : ℕ). CouldStand own far xs p × (p < length xs)) (sym (signalOctets (firstBad (address xs octets))))

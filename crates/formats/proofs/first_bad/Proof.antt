@@ -6,7 +6,7 @@ use Rattle.formats.proofs.Signals.{counts, counted, countedAll}
 use Rattle.formats.specs.Octets.{badCode, firstBad}
 use lib.ListN.{length, drop}
 use Prim.Native.Nat.{_+_, _≤_, _-_}
-use mathlib.Core.Path.{_≡_, refl, sym, _∙_}
+use mathlib.Core.Path.{_≡_, sym, _∙_}
 use Rattle.formats.proofs.first_bad.Statement.{statement}
 use Rattle.formats.proofs.first_bad.Tie as tie
 
