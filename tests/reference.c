@@ -1,7 +1,9 @@
 /* The rules once more, written from the project's documents 01 and 02 alone: events on a record, release ranks and the choice of a
-   circuit, messages on the link, the replay of a trace. docs/RULES.md has the same rules in words and tables. */
+   circuit, messages on the link, the replay of a trace, the reading of a file of messages. docs/RULES.md has the same rules in words
+   and tables. */
 #include "reference.h"
 
+#include <stdlib.h>
 #include <string.h>
 
 enum { POINT_CODES = 16384, CIRCUITS = 4096 };
@@ -697,13 +699,75 @@ static void replay_events(uint32_t own, uint32_t far, uint32_t count, const uint
     fprintf(out, "end %llu\n", (unsigned long long)(ordinal - 1));
 }
 
+/* The line of the group that a file begins with; 0 where it begins with no good one. */
+static int put_group(const uint8_t *file, size_t len, FILE *out)
+{
+    if (len < GROUP_OCTETS || file[0] != 0 || !group_good(two(file + 1), two(file + 3), two(file + 5))) {
+        fputs("bad group\n", out);
+        return 0;
+    }
+    fprintf(out, "own %u far %u circuits %u\n", two(file + 1), two(file + 3), two(file + 5));
+    return 1;
+}
+
 void ref_replay(const uint8_t *trace, size_t len, FILE *out)
 {
-    if (len < GROUP_OCTETS || trace[0] != 0 || !group_good(two(trace + 1), two(trace + 3), two(trace + 5))) {
-        fputs("bad group\n", out);
+    if (put_group(trace, len, out))
+        replay_events(two(trace + 1), two(trace + 3), two(trace + 5), trace + GROUP_OCTETS, len - GROUP_OCTETS, out);
+}
+
+/* A file of messages. */
+
+static void put_message_fields(const uint8_t *fields, FILE *out)
+{
+    fprintf(out, "%u %02x ", two(fields), fields[2]);
+    if (fields[2] == IAM) {
+        fprintf(out, "%u,%u,", fields[4], two(fields + 5));
+        for (unsigned i = 0; i < fields[7]; i++)
+            fprintf(out, "%x", fields[8 + i]);
+    } else if (fields[2] == ACM)
+        fprintf(out, "%u", fields[3]);
+    else
+        fputc('-', out);
+}
+
+void ref_messages(const uint8_t *file, size_t len, FILE *out)
+{
+    if (!put_group(file, len, out))
         return;
+    unsigned long long ordinal = 1;
+    size_t at = GROUP_OCTETS;
+    for (; at < len && len - at > file[at]; at += 1 + (size_t)file[at], ordinal++) {
+        uint8_t fields[REF_MESSAGE_OCTETS];
+        uint64_t answer = ref_read(two(file + 1), two(file + 3), two(file + 5), file + at + 1, file[at], fields, sizeof fields);
+        fprintf(out, "%llu %u %llu ", ordinal, (unsigned)(answer & 255), (unsigned long long)(answer >> 8));
+        if (answer == 0)
+            put_message_fields(fields, out);
+        else
+            fputs("- - -", out);
+        fputc('\n', out);
     }
-    uint32_t own = two(trace + 1), far = two(trace + 3), count = two(trace + 5);
-    fprintf(out, "own %u far %u circuits %u\n", own, far, count);
-    replay_events(own, far, count, trace + GROUP_OCTETS, len - GROUP_OCTETS, out);
+    if (at < len)
+        fprintf(out, "cut %llu\n", ordinal);
+    else
+        fprintf(out, "end %llu\n", ordinal - 1);
+}
+
+int ref_main(void (*print)(const uint8_t *file, size_t len, FILE *out))
+{
+    size_t len = 0, room = 1 << 20;
+    uint8_t *file = malloc(room);
+    while (file != NULL) {
+        size_t got = fread(file + len, 1, room - len, stdin);
+        if (got == 0)
+            break;
+        len += got;
+        if (len == room)
+            file = realloc(file, room *= 2);
+    }
+    if (file == NULL)
+        return 1;
+    print(file, len, stdout);
+    free(file);
+    return fflush(stdout) == 0 ? 0 : 1;
 }

@@ -23,4 +23,10 @@ uint32_t ref_write(uint32_t own, uint32_t far, uint32_t count, uint32_t cic, uin
 /* Prints what the program `replay` prints for this trace. */
 void ref_replay(const uint8_t *trace, size_t len, FILE *out);
 
+/* Prints what the program `tup-messages` prints for this file of messages. */
+void ref_messages(const uint8_t *file, size_t len, FILE *out);
+
+/* Either of them as a program: a file on standard input, its text on standard output. Answers the status to end with. */
+int ref_main(void (*print)(const uint8_t *file, size_t len, FILE *out));
+
 #endif

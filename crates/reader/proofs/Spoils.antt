@@ -1,8 +1,9 @@
 -- Where a refusal names the octet of the heading, the count or a signal, no message is read that begins with the octets up to that one and with it.
 -- Assumes nothing.
 use mathlib.Core.Path.{_≡_, refl, sym, ap, ap₂, _∙_, subst}
-use mathlib.Core.Bool.{true, false, cond, not, _&&_, _||_}
+use mathlib.Core.Bool.{Bool, true, false, cond, not, _&&_, _||_}
 use mathlib.Core.List.{List, [], _∷_}
+use mathlib.Core.Logic.{_⊎_, ⊎-elim}
 use Prim.Native.Nat.{ℕ, suc, _+_, _-_, _/_, _%_, _<_, _≤_}
 use native.Mathlib.Omega.{arith}
 use borrow.Author.Tests.{ltb-true}
@@ -79,9 +80,9 @@ module _ (own far records : ℕ) (xs : List ℕ) (octets : (i : ℕ) → getD xs
   other : {P : Type 0} → false ≡ true → P
   other e = absurd (subst T (sym e) tt)
 
-  pub spoils : Spoils (fieldsOf own far records xs)
+  each : Spoils (fieldsOf own far records xs)
   unfolding fieldsOf
-  spoils = cases Spoils (readFaults own far records xs) (fieldsIn (headingIn xs) xs) (
+  each = cases Spoils (readFaults own far records xs) (fieldsIn (headingIn xs) xs) (
     (λ e. other),
     (λ e. ((λ e. other), (λ e. ((λ e. other), (λ e. (
       (λ e n theirs ys o same ok. notUnlisted own far theirs xs ys octets o 5 same ok (omega arith) e),
@@ -101,3 +102,9 @@ module _ (own far records : ℕ) (xs : List ℕ) (octets : (i : ℕ) → getD xs
       itsOctet : (hasSignals (headingIn xs) && badCodes (signalsBy (formatOf (headingIn xs)) xs)) ≡ true
           → signalOctet (formatOf (headingIn xs)) (firstBad (signalsBy (formatOf (headingIn xs)) xs)) ≡ 9 + firstBad (address xs octets) / 2
       itsOctet e = ap (λ (h : ℕ). signalOctet (formatOf h) (firstBad (signalsBy (formatOf h) xs))) (iamIn xs (bothHold (hasSignals (headingIn xs)) e .0)) ∙ signalOctets (firstBad (address xs octets))
+
+  pub spoils : (fieldsOf own far records xs .refusal ≡ 9) ⊎ (fieldsOf own far records xs .refusal ≡ 10) → Unread (fieldsOf own far records xs .place)
+  spoils n = each (⊎-elim (ap nine-or-ten) (ap nine-or-ten) n)
+    where
+      nine-or-ten : ℕ → Bool
+      nine-or-ten k = eqb k 9 || eqb k 10
