@@ -1,11 +1,11 @@
--- `replay::take` meets its contract.
+-- `console::take` meets its contract.
 -- Assumes nothing.
 use lib.Seq.{length-take-le}
 use native.Mathlib.Omega.{arith}
 use mathlib.Core.Path.{sym}
 use borrow.Author.Needs.{needs}
-use Rattle.replay.proofs.take.Statement.{statement}
-use Rattle.replay.proofs.take.Tie as tie
+use Rattle.console.proofs.take.Statement.{statement}
+use Rattle.console.proofs.take.Tie as tie
 
 table-octets-requires : tie.Need-table-octets-requires
 table-octets-requires c κs = search needs

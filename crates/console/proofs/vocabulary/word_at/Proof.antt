@@ -1,29 +1,29 @@
--- `replay::wording::named` is safe and ends, and takes no more than the lines. The measure is what is left of them.
+-- `console::vocabulary::word_at` is safe and ends. The measure is what is left of the text.
 -- Assumes nothing.
 use borrow.Author.Needs.{needs}
 use lib.ListN.{length}
 use mathlib.Core.Path.{_≡_, refl}
-use Prim.Native.Nat.{_-_, _≤_}
-use Rattle.replay.proofs.wording.named.Statement.{statement}
-use Rattle.replay.proofs.wording.named.Tie as tie
+use Prim.Native.Nat.{_-_}
+use Rattle.console.proofs.vocabulary.word_at.Statement.{statement}
+use Rattle.console.proofs.vocabulary.word_at.Tie as tie
 
 abbrev Inv-loop : tie.InvT-loop
-Inv-loop lines room₀ p₀ i₀ room p i = (i ≤ length lines) × (length room ≡ length room₀)
+Inv-loop room₀ at text from next₀ i₀ room next i = length room ≡ length room₀
 
 abbrev μ-loop : tie.MeasureT-loop
-μ-loop lines room₀ p₀ i₀ room p i = length lines - i
+μ-loop room₀ at text from next₀ i₀ room next i = length text - i
 
 loop-holds : tie.Need-loop-holds Inv-loop μ-loop
-loop-holds c = (search needs, refl)
+loop-holds c = refl
 
-is-full-requires : tie.Need-is-full-requires Inv-loop μ-loop
-is-full-requires c κs = search needs
+shared-slice-read-if1 : tie.Need-shared-slice-read-if1 Inv-loop μ-loop
+shared-slice-read-if1 c = search needs
 
-shared-slice-read-step : tie.Need-shared-slice-read-step Inv-loop μ-loop
-shared-slice-read-step c = search needs
+shared-slice-read-copy : tie.Need-shared-slice-read-copy Inv-loop μ-loop
+shared-slice-read-copy c = search needs
 
-step-requires : tie.Need-step-requires Inv-loop μ-loop
-step-requires c κs = search needs
+copy-requires : tie.Need-copy-requires Inv-loop μ-loop
+copy-requires c κs = search needs
 
 add-i : tie.Need-add-i Inv-loop μ-loop
 add-i c = search needs
@@ -46,16 +46,16 @@ same-length-2 c = search needs
 returns-2 : tie.Need-returns-2 Inv-loop μ-loop
 returns-2 c = search needs
 
-pub named-spec : {M : Type 1} → statement M
-named-spec =
+pub word-at-spec : {M : Type 1} → statement M
+word-at-spec =
     tie.close
     (tie.spec
     Inv-loop
     μ-loop
     loop-holds
-    is-full-requires
-    shared-slice-read-step
-    step-requires
+    shared-slice-read-if1
+    shared-slice-read-copy
+    copy-requires
     add-i
     loop-less
     loop-again

@@ -1,12 +1,12 @@
--- `replay::wording::write_by` is safe and ends. The measure is what is left of the lines: each turn takes some.
+-- `console::wording::write_by` is safe and ends. The measure is what is left of the lines: each turn takes some.
 -- Assumes nothing.
 use borrow.Author.Needs.{needs}
 use lib.ListN.{length}
 use mathlib.Core.Path.{_≡_, refl, sym}
 use lib.Seq.{length-take-le}
 use Prim.Native.Nat.{_-_, _≤_}
-use Rattle.replay.proofs.wording.write_by.Statement.{statement}
-use Rattle.replay.proofs.wording.write_by.Tie as tie
+use Rattle.console.proofs.wording.write_by.Statement.{statement}
+use Rattle.console.proofs.wording.write_by.Tie as tie
 
 abbrev Inv-loop : tie.InvT-loop
 Inv-loop lines room₀ at₀ room at = (at ≤ length lines) × (length room ≡ length room₀)

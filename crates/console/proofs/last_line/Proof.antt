@@ -1,11 +1,11 @@
--- `replay::last_line` meets its contract.
+-- `console::last_line` meets its contract.
 -- Assumes nothing.
 use lib.Seq.{length-take-le}
 use native.Mathlib.Omega.{arith}
 use mathlib.Core.Path.{sym}
 use borrow.Author.Needs.{needs}
-use Rattle.replay.proofs.last_line.Statement.{statement}
-use Rattle.replay.proofs.last_line.Tie as tie
+use Rattle.console.proofs.last_line.Statement.{statement}
+use Rattle.console.proofs.last_line.Tie as tie
 
 returns : tie.Need-returns
 returns c = search needs

@@ -1,10 +1,10 @@
--- `replay::vocabulary::behind_blanks` is safe and ends. The measure is what is left of the text.
+-- `console::vocabulary::behind_blanks` is safe and ends. The measure is what is left of the text.
 -- Assumes nothing.
 use borrow.Author.Needs.{needs}
 use lib.ListN.{length}
 use Prim.Native.Nat.{_-_, _≤_}
-use Rattle.replay.proofs.vocabulary.behind_blanks.Statement.{statement}
-use Rattle.replay.proofs.vocabulary.behind_blanks.Tie as tie
+use Rattle.console.proofs.vocabulary.behind_blanks.Statement.{statement}
+use Rattle.console.proofs.vocabulary.behind_blanks.Tie as tie
 
 abbrev Inv-loop : tie.InvT-loop
 Inv-loop text blanks left₀ i₀ left i = i ≤ length text

@@ -1,4 +1,4 @@
-// The named form of a replay's lines, made from the numbered form. Each octet is copied as it comes, and where a number ends, the word
+// The named form of lines, made from the numbered form. Each octet is copied as it comes, and where a number ends, the word
 // for it is put over its digits; a number that has no word stays as it is.
 use super::vocabulary;
 use super::vocabulary::Digits;
@@ -6,21 +6,22 @@ use libc::STDOUT_FILENO;
 ghost use Prim.Native.Nat.{_≤_};
 ghost use lib.ListN.{length};
 
-// The columns of an event's line, counted from 0. The ordinal and the circuit behind it are numbers in both forms.
-const ORDINAL: u8 = 0;
+// What a column of the lines holds, by a letter for each: a number that has no word, or one of a refusal, a state, flags, an indication or a
+// heading, which is hexadecimal. The first column of each line is its ordinal.
+const REFUSAL: u8 = b'r';
 
-const REFUSAL: u8 = 2;
+const STATE: u8 = b's';
 
-const STATE: u8 = 3;
+const FLAGS: u8 = b'f';
 
-const FLAGS: u8 = 4;
+const INDICATION: u8 = b'i';
 
-const INDICATION: u8 = 5;
+const HEADING: u8 = b'h';
 
-const HEADINGS: u8 = 6;
+const PLAIN: u8 = b'.';
 
 // A line that begins with a letter has no columns, and is the same in both forms.
-const NO_COLUMN: u8 = 7;
+const NO_COLUMN: usize = 255;
 
 // Larger than any digit, and than any number of an octet: there is none.
 const NO_DIGIT: u16 = 16;
@@ -33,7 +34,7 @@ const LINE: usize = 256;
 // Where the translation stands: the column and the number in it so far, and the places of the room at which the column starts and
 // the next octet goes.
 struct Place {
-    column: u8,
+    column: usize,
     number: u16,
     start: usize,
     at: usize,
@@ -55,8 +56,15 @@ fn digit(octet: u8) -> u16 {
     NO_DIGIT
 }
 
+fn kind_of(kinds: &[u8], column: usize) -> u8 {
+    if column < kinds.len() {
+        return kinds[column];
+    }
+    PLAIN
+}
+
 // A column's number with one digit more: headings are hexadecimal, the others decimal.
-fn grown(column: u8, number: u16, octet: u8) -> u16 {
+fn grown(kind: u8, number: u16, octet: u8) -> u16 {
     let next = digit(octet);
     if NO_NUMBER <= number {
         return NO_NUMBER;
@@ -64,7 +72,7 @@ fn grown(column: u8, number: u16, octet: u8) -> u16 {
     if NO_DIGIT <= next {
         return NO_NUMBER;
     }
-    if column == HEADINGS {
+    if kind == HEADING {
         number * 16 + next
     } else {
         number * 10 + next
@@ -72,7 +80,7 @@ fn grown(column: u8, number: u16, octet: u8) -> u16 {
 }
 
 // Puts the word for the column's number over its digits, and answers the place behind it.
-fn over(p: Place, room: &mut [u8]) -> usize {
+fn over(kinds: &[u8], p: Place, room: &mut [u8]) -> usize {
     if NO_NUMBER <= p.number {
         return p.at;
     }
@@ -81,34 +89,34 @@ fn over(p: Place, room: &mut [u8]) -> usize {
         behind: p.at,
         number: p.number as u8,
     };
-    let column = p.column;
-    match column {
+    let kind = kind_of(kinds, p.column);
+    match kind {
         REFUSAL => vocabulary::refusal(room, d),
         STATE => vocabulary::state(room, d),
         FLAGS => vocabulary::flags(room, d),
         INDICATION => vocabulary::indication(room, d),
-        HEADINGS => vocabulary::heading(room, d),
+        HEADING => vocabulary::heading(room, d),
         _ => p.at,
     }
 }
 
-// The column behind an octet that ends a number: a comma stands between two headings.
-fn column_behind(column: u8, octet: u8) -> u8 {
+// The column behind an octet that ends a number: a comma stands between two of one column.
+fn column_behind(column: usize, octet: u8) -> usize {
     if octet == b'\n' {
-        return ORDINAL;
+        return 0;
     }
     if octet == b',' {
         return column;
     }
-    if column < HEADINGS {
+    if column < NO_COLUMN {
         column + 1
     } else {
         column
     }
 }
 
-fn ended(p: Place, octet: u8, room: &mut [u8]) -> Place {
-    let behind = over(p, room);
+fn ended(kinds: &[u8], p: Place, octet: u8, room: &mut [u8]) -> Place {
+    let behind = over(kinds, p, room);
     let next = vocabulary::copy(room, behind, octet);
     Place {
         column: column_behind(p.column, octet),
@@ -118,14 +126,14 @@ fn ended(p: Place, octet: u8, room: &mut [u8]) -> Place {
     }
 }
 
-fn step(p: Place, octet: u8, room: &mut [u8]) -> Place {
+fn step(kinds: &[u8], p: Place, octet: u8, room: &mut [u8]) -> Place {
     if octet == b' ' || octet == b',' || octet == b'\n' {
-        return ended(p, octet, room);
+        return ended(kinds, p, octet, room);
     }
-    let letter = p.column == ORDINAL && b'9' < octet;
+    let letter = p.column == 0 && b'9' < octet;
     Place {
         column: if letter { NO_COLUMN } else { p.column },
-        number: grown(p.column, p.number, octet),
+        number: grown(kind_of(kinds, p.column), p.number, octet),
         start: p.start,
         at: vocabulary::copy(room, p.at, octet),
     }
@@ -133,23 +141,23 @@ fn step(p: Place, octet: u8, room: &mut [u8]) -> Place {
 
 // Whether a line begins here that the room may be too short for.
 fn is_full(p: Place, octets: usize) -> bool {
-    let begins = p.column == ORDINAL && p.start == p.at;
+    let begins = p.column == 0 && p.start == p.at;
     begins && (octets < p.at || octets - p.at < LINE)
 }
 
 // Translates as many of the lines as the room has space for.
-fn named(lines: &[u8], room: &mut [u8]) -> Part
+fn named(kinds: &[u8], lines: &[u8], room: &mut [u8]) -> Part
     ensures { λ p. ⌜ p .taken ≤ length (now (lines .entry)) ⌝ }
 {
     let mut p = Place {
-        column: ORDINAL,
+        column: 0,
         number: 0,
         start: 0,
         at: 0,
     };
     let mut i = 0;
     while i < lines.len() && !is_full(p, room.len()) {
-        p = step(p, lines[i], room);
+        p = step(kinds, p, lines[i], room);
         i += 1;
     }
     Part {
@@ -158,10 +166,10 @@ fn named(lines: &[u8], room: &mut [u8]) -> Part
     }
 }
 
-fn write_by(lines: &[u8], room: &mut [u8]) -> bool {
+fn write_by(kinds: &[u8], lines: &[u8], room: &mut [u8]) -> bool {
     let mut at = 0;
     while at < lines.len() {
-        let part = named(&lines[at..], room);
+        let part = named(kinds, &lines[at..], room);
         let written = part.written;
         if part.taken == 0 {
             return false;
@@ -178,7 +186,7 @@ fn write_by(lines: &[u8], room: &mut [u8]) -> bool {
 }
 
 // Writes the named form of whole lines to standard output, much at a time, and answers whether that went well.
-pub(crate) fn write(lines: &[u8]) -> bool {
+pub(crate) fn write(kinds: &[u8], lines: &[u8]) -> bool {
     let mut room = io::large_buffer();
-    write_by(lines, &mut room)
+    write_by(kinds, lines, &mut room)
 }

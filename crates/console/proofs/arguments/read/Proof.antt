@@ -1,9 +1,9 @@
--- `replay::arguments::read` is safe and ends. The measure is how many arguments are left.
+-- `console::arguments::read` is safe and ends. The measure is how many arguments are left.
 -- Assumes nothing.
 use borrow.Author.Needs.{needs}
 use Prim.Native.Nat.{_-_}
-use Rattle.replay.proofs.arguments.read.Statement.{statement}
-use Rattle.replay.proofs.arguments.read.Tie as tie
+use Rattle.console.proofs.arguments.read.Statement.{statement}
+use Rattle.console.proofs.arguments.read.Tie as tie
 
 abbrev Inv-loop : tie.InvT-loop
 Inv-loop count a₀ i₀ a i = Unit {0}

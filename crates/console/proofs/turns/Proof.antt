@@ -1,10 +1,10 @@
--- `replay::turns` meets its contract.
+-- `console::turns` meets its contract.
 -- Assumes nothing.
 use borrow.Author.Needs.{needs}
 use lib.ListN.{length}
 use mathlib.Core.Path.{_≡_, refl}
-use Rattle.replay.proofs.turns.Statement.{statement}
-use Rattle.replay.proofs.turns.Tie as tie
+use Rattle.console.proofs.turns.Statement.{statement}
+use Rattle.console.proofs.turns.Tie as tie
 
 abbrev Inv-loop : tie.InvT-loop
 Inv-loop job table₀ buffer₀ room₀ p₀ left₀ t8 table buffer room p left = (length table ≡ length table₀) × (length buffer ≡ length buffer₀) × (length room ≡ length room₀)

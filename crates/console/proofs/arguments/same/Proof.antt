@@ -1,10 +1,10 @@
--- `replay::arguments::same` is safe and ends. The measure is what is left of the first slice.
+-- `console::arguments::same` is safe and ends. The measure is what is left of the first slice.
 -- Assumes nothing.
 use borrow.Author.Needs.{needs}
 use lib.ListN.{length}
 use Prim.Native.Nat.{_-_, _≤_}
-use Rattle.replay.proofs.arguments.same.Statement.{statement}
-use Rattle.replay.proofs.arguments.same.Tie as tie
+use Rattle.console.proofs.arguments.same.Statement.{statement}
+use Rattle.console.proofs.arguments.same.Tie as tie
 
 abbrev Inv-loop : tie.InvT-loop
 Inv-loop a b i₀ i = i ≤ length a
