@@ -6,7 +6,6 @@ use mathlib.Core.List.{List}
 use Prim.Native.Nat.{ℕ, _≤_, _<_}
 use native.Mathlib.Omega.{arith}
 use lib.Dec.{eqb, leb, ltb}
-use lib.ListN.{length}
 use borrow.Author.Tests.{leb-true, ltb-true, ne-eqb}
 use Rattle.words.specs.Words.{largest}
 use Rattle.text.proofs.Numbers.{byTest}

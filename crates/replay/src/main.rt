@@ -2,7 +2,7 @@
 // parts, so that a trace may be of any length. Where reading or writing fails it says so on standard error, and prints no last line.
 use libc::STDERR_FILENO;
 use libc::STDOUT_FILENO;
-use trace::Stage;
+use parts::Stage;
 
 mod arguments; // arguments.rt: what the program was started with
 mod help; // help.rt: what it says of itself
@@ -84,7 +84,7 @@ fn take(names: bool, p: Progress, table: &mut [u8], buffer: &[u8], room: &mut [u
 
 // Reads more behind what is not taken yet. A buffer that is full of what cannot be taken is that of a replay with no further ordinal.
 fn read(input: i32, stage: Stage, at: usize, have: usize, buffer: &mut [u8]) -> Progress {
-    let kept = trace::keep(buffer, at, have);
+    let kept = parts::keep(buffer, at, have);
     if buffer.len() <= kept {
         return refused(stage, b"tup-replay: too many events\n");
     }
@@ -107,7 +107,7 @@ fn turn(job: Job, p: Progress, table: &mut [u8], buffer: &mut [u8], room: &mut [
         return q;
     }
     let after = q.stage;
-    if trace::is_over(after) {
+    if parts::is_over(after) {
         return Progress {
             stage: after,
             at: q.at,
@@ -177,7 +177,7 @@ fn last_line(p: Progress, buffer: &[u8], room: &mut [u8]) {
         return;
     }
     let stage = p.stage;
-    let n = trace::finish(stage, &buffer[at..have], room);
+    let n = parts::finish(stage, &buffer[at..have], room);
     if !io::write_all(STDOUT_FILENO, &room[..n]) {
         os::fail(b"tup-replay: cannot write");
         return;
