@@ -86,11 +86,16 @@ use Rattle.records.proofs.item_at.Reads as itemAt
 use Rattle.records.proofs.refused_start.Reads as refusedStart
 use Rattle.records.proofs.group_in.Reads as groupIn
 use Rattle.records.proofs.behind_at.Reads as behindAt
+use Rattle.parts.proofs.may_go.Reads as mayGo
+use Rattle.parts.proofs.no_turn.Reads as noTurn
+use Rattle.parts.proofs.onward.Reads as onward
+use Rattle.parts.proofs.stay.Reads as stay
+use Rattle.parts.proofs.begin.Reads as begin
+use Rattle.parts.proofs.finish.Reads as finish
+use Rattle.parts.proofs.is_over.Reads as isOver
+use Rattle.parts.proofs.keep.Reads as keep
 use Rattle.trace.proofs.feed.Reads as feed
-use Rattle.trace.proofs.finish.Reads as finish
-use Rattle.trace.proofs.is_over.Reads as isOver
 use Rattle.trace.proofs.table_octets.Reads as traceTableOctets
-use Rattle.trace.proofs.keep.Reads as keep
 
 -- the answer is determined
 abbrev pub Once : {K : Type 0} {A X E : K → Type 0} → ((κs : K) → A κs → X κs → E κs → Type 0) → Type 0
@@ -299,27 +304,44 @@ ofText = (
 pub ofRecords : Once octetsOf.Learnt × Once itemAt.Learnt × Once refusedStart.Learnt × Once groupIn.Learnt × Once behindAt.Learnt
 ofRecords = (λ κs a x y s t. once, λ κs a x y s t. once, λ κs a x y s t. once, λ κs a x y s t. once, λ κs a x y s t. once)
 
--- the table and the room of a part, the room of the last line, the buffer
-pub ofTrace :
-    Once feed.Learnt
-    × Leaves (λ κs s. now (s .1 .0)) feed.Learnt
-    × Leaves (λ κs s. now (s .1 .1 .1 .0)) feed.Learnt
+-- the room of the group's line and of the last one, the buffer
+pub ofParts :
+    Once mayGo.Learnt
+    × Once noTurn.Learnt
+    × Once onward.Learnt
+    × Once stay.Learnt
+    × Once begin.Learnt
+    × Leaves (λ κs s. now (s .1 .0)) begin.Learnt
     × Once finish.Learnt
     × Leaves (λ κs s. now (s .1 .1 .0)) finish.Learnt
     × Once isOver.Learnt
-    × Once traceTableOctets.Learnt
     × Once keep.Learnt
     × Leaves (λ κs s. now (s .0)) keep.Learnt
-ofTrace = (
+ofParts = (
+  λ κs a x y s t. once,
+  λ κs a x y s t. once,
+  λ κs a x y s t. once,
+  λ κs a x y s t. once,
   λ κs a x y s t h k. once (h .0) (k .0),
   λ κs a x y s t h k. once (h .1 .0) (k .1 .0),
-  λ κs a x y s t h k. once (h .1 .1 .0) (k .1 .1 .0),
   λ κs a x y s t h k. once (h .0 .count) (k .0 .count),
   λ κs a x y s t h k. once (h .0 .room) (k .0 .room),
   λ κs a x y s t. once,
   λ κs a x y s t h k. once (h .0) (k .0),
+  λ κs a x y s t h k. once (h .1 .0) (k .1 .0),
+)
+
+-- the table and the room of a part
+pub ofTrace :
+    Once feed.Learnt
+    × Leaves (λ κs s. now (s .1 .0)) feed.Learnt
+    × Leaves (λ κs s. now (s .1 .1 .1 .0)) feed.Learnt
+    × Once traceTableOctets.Learnt
+ofTrace = (
   λ κs a x y s t h k. once (h .0) (k .0),
   λ κs a x y s t h k. once (h .1 .0) (k .1 .0),
+  λ κs a x y s t h k. once (h .1 .1 .0) (k .1 .1 .0),
+  λ κs a x y s t h k. once (h .0) (k .0),
 )
 
 -- THE TABLE OF CALLS, AND THE ENTRIES FOR C

@@ -55,14 +55,17 @@ use Rattle.text.specs.Lines.{endLine, cutLine, badGroupLine}
 use Rattle.text.proofs.Numbers.{decimalValue, decimalFirst}
 use Rattle.records.specs.declared.Recorded.{Recorded}
 use Rattle.records.specs.declared.Item.the-variants.{Event as anEvent, NoEvent, Short, End}
-use Rattle.trace.specs.declared.Running.{Running}
-use Rattle.trace.specs.declared.Stage.the-variants.{Start, Bad, Runs, Cut}
-use Rattle.trace.specs.Replay.{textAt, lines, replay}
-use Rattle.trace.specs.Feed.{fed, isOver, lastLine}
-use Rattle.trace.specs.Parts.{textFrom, tableAfter, Move, Move.Reads, Move.Feeds, Standing, before, moved, after, whole-text, hasNext}
+use Rattle.records.specs.Records as records
+use Rattle.parts.specs.declared.Running.{Running}
+use Rattle.parts.specs.declared.Stage.the-variants.{Start, Bad, Runs, Cut}
+use Rattle.parts.specs.Whole.{Ahead.Takes, Ahead.NoRecord, Ahead.Partial, Ahead.AtEnd, Making, Lawful, textAt, lines, whole}
+use Rattle.parts.specs.Feed.{fed, isOver, lastLine}
+use Rattle.parts.specs.Schedule.{textFrom, stateAfter, Move, Move.Reads, Move.Feeds, Standing, before, moved, after, whole-text, hasNext}
+use Rattle.parts.proofs.Schedule.{inParts, finished, overEarly}
+use Rattle.trace.specs.Replay.{happens, eventText, aheadOf, replaying, replay}
 use Rattle.trace.specs.Cases.{wholeCase, wholeText}
 use Rattle.trace.proofs.Cases.{theWholeCase}
-use Rattle.trace.proofs.Parts.{inParts, finished, overEarly}
+use Rattle.trace.proofs.Events.{lawful}
 
 -- THE CASES P1 TO P10
 
@@ -287,51 +290,56 @@ pub wholeCasePrints : replay wholeCase ≡ wholeText
 wholeCasePrints = theWholeCase
 
 -- A trace may be read and fed in parts of any sizes, into rooms of any sizes. A host reads some octets, or feeds what it has read and what was not
--- taken yet (`fed` is what the contract of `trace::feed` cites):
-pub readsSome : (z : Standing) (n : ℕ)
-    → moved z (Reads n) ≡ record { stage = z .stage; table = z .table; read = z .read ++ take n (z .unread); unread = drop n (z .unread); printed = z .printed }
+-- taken yet (`fed` is what the contract of `trace::feed` cites); the state that goes along is the table.
+pub readsSome : (z : Standing (List ℕ)) (n : ℕ)
+    → moved replaying z (Reads n) ≡ record { stage = z .stage; state = z .state; read = z .read ++ take n (z .unread); unread = drop n (z .unread); printed = z .printed }
 unfolding moved
 readsSome z n = refl
 
-pub feedsSome : (z : Standing) (room : ℕ)
-    → let p = fed (z .stage) (z .table) (z .read) room in
-    moved z (Feeds room) ≡ record { stage = p .stage; table = tableAfter (z .stage) p; read = drop (p .taken) (z .read); unread = z .unread; printed = z .printed ++ p .text }
+pub feedsSome : (z : Standing (List ℕ)) (room : ℕ)
+    → let p = fed replaying (z .stage) (z .state) (z .read) room in
+    moved replaying z (Feeds room) ≡ record { stage = p .stage; state = stateAfter replaying (z .stage) p; read = drop (p .taken) (z .read); unread = z .unread; printed = z .printed ++ p .text }
 unfolding moved
 feedsSome z room = refl
 
-pub oneAfterAnother : (z : Standing) (m : Move) (ms : List Move) → (after z [] ≡ z) × (after z (m ∷ ms) ≡ after (moved z m) ms)
+pub oneAfterAnother : (z : Standing (List ℕ)) (m : Move) (ms : List Move) → (after replaying z [] ≡ z) × (after replaying z (m ∷ ms) ≡ after replaying (moved replaying z m) ms)
 unfolding after
 oneAfterAnother z m ms = (refl, refl)
 
-pub nothingReadYet : (trace : List ℕ) → before trace ≡ record { stage = Start; table = []; read = []; unread = trace; printed = [] }
+pub nothingReadYet : (trace : List ℕ) → _≡_ {A = Standing (List ℕ)} (before [] trace) (record { stage = Start; state = []; read = []; unread = trace; printed = [] })
 nothingReadYet trace = refl
 
 -- after every schedule, what is printed and what is still to come is the text of the whole trace
-pub stillToCome : (z : Standing) → whole-text z ≡ z .printed ++ textFrom (z .stage) (z .table) (z .read ++ z .unread)
+pub stillToCome : (z : Standing (List ℕ)) → whole-text replaying z ≡ z .printed ++ textFrom replaying (z .stage) (z .state) (z .read ++ z .unread)
 unfolding whole-text
 stillToCome z = refl
 
 pub comesByStage : (r : Running) (next : ℕ) (table s : List ℕ)
-    → (textFrom Start table s ∷ textFrom Bad table s ∷ textFrom (Runs r) table s ∷ textFrom (Cut next) table s ∷ []) ≡ replay s ∷ badGroupLine ∷ lines r table s ∷ cutLine next ∷ []
+    → (textFrom replaying Start table s ∷ textFrom replaying Bad table s ∷ textFrom replaying (Runs r) table s ∷ textFrom replaying (Cut next) table s ∷ [])
+    ≡ replay s ∷ badGroupLine ∷ lines replaying r table s ∷ cutLine next ∷ []
 unfolding textFrom
 comesByStage r next table s = refl
 
-pub partsPrintTheWhole : (trace : List ℕ) (ms : List Move) → whole-text (after (before trace) ms) ≡ replay trace
-partsPrintTheWhole = inParts
+pub partsPrintTheWhole : (trace : List ℕ) (ms : List Move) → whole-text replaying (after replaying (before [] trace) ms) ≡ replay trace
+partsPrintTheWhole = inParts lawful []
+
+-- and so of every kind of file whose records are of the same form whatever stands behind them
+pub partsOfAnyFile : {T : Type 0} {w : Making T} → Lawful w → (state : T) (file : List ℕ) (ms : List Move) → whole-text w (after w (before state file) ms) ≡ whole w file
+partsOfAnyFile = inParts
 
 -- where all was read, nothing more can be taken and a further ordinal fits 64 bits, the last line ends the text
 pub ordinalsFit : (r : Running) (next : ℕ) → (hasNext Start ∷ hasNext Bad ∷ hasNext (Runs r) ∷ hasNext (Cut next) ∷ []) ≡ true ∷ true ∷ ltb (r .next) largest ∷ true ∷ []
 ordinalsFit r next = refl
 
-pub lastLineEnds : (trace : List ℕ) (ms : List Move) (n : ℕ) → 132 ≤ n → (z : Standing) → z ≡ after (before trace) ms
-    → z .unread ≡ [] → hasNext (z .stage) ≡ true → fed (z .stage) (z .table) (z .read) n .taken ≡ 0
-    → z .printed ++ lastLine (fed (z .stage) (z .table) (z .read) n .stage) (z .read) ≡ replay trace
-lastLineEnds = finished
+pub lastLineEnds : (trace : List ℕ) (ms : List Move) (n : ℕ) → 132 ≤ n → (z : Standing (List ℕ)) → z ≡ after replaying (before [] trace) ms
+    → z .unread ≡ [] → hasNext (z .stage) ≡ true → fed replaying (z .stage) (z .state) (z .read) n .taken ≡ 0
+    → z .printed ++ lastLine (fed replaying (z .stage) (z .state) (z .read) n .stage) (z .read) ≡ replay trace
+lastLineEnds = finished lawful []
 
 -- and where the trace is cut or has no good group, no more needs to be read
-pub lastLineEarly : (trace : List ℕ) (ms : List Move) (z : Standing) → z ≡ after (before trace) ms → isOver (z .stage) ≡ true
+pub lastLineEarly : (trace : List ℕ) (ms : List Move) (z : Standing (List ℕ)) → z ≡ after replaying (before [] trace) ms → isOver (z .stage) ≡ true
     → z .printed ++ lastLine (z .stage) (z .read) ≡ replay trace
-lastLineEarly = overEarly
+lastLineEarly = overEarly lawful []
 
 -- the last line by where a replay stands: "bad group", "end" and the number of events, or "cut" and the next event's ordinal
 pub lastLines : (r : Running) (next : ℕ)
@@ -340,12 +348,17 @@ pub lastLines : (r : Running) (next : ℕ)
 unfolding lastLine
 lastLines r next = refl
 
--- and the text by what stands at a place of the trace: an event's own, or the last line
-pub itemTexts : (e : Recorded) (text : Recorded → List ℕ) (next : ℕ)
-    → (textAt (anEvent e) text next ∷ textAt NoEvent text next ∷ textAt Short text next ∷ textAt End text next ∷ [])
-    ≡ text e ∷ cutLine next ∷ cutLine next ∷ endLine (next - 1) ∷ []
+-- what stands at a place of the trace, and its text: an event's line and all that follows on the table that it leaves, or the last line
+pub itemsAhead : (e : Recorded) (r : Running) (table : List ℕ)
+    → (aheadOf (anEvent e) r table ∷ aheadOf NoEvent r table ∷ aheadOf Short r table ∷ aheadOf End r table ∷ [])
+    ≡ Takes (records.octetsOf (e .kind)) (eventText r table e) (happens r table e .table) ∷ NoRecord ∷ Partial ∷ AtEnd ∷ []
+itemsAhead e r table = refl
+
+pub itemTexts : (taken : ℕ) (text table : List ℕ) (more : ℕ → List ℕ → List ℕ) (next : ℕ)
+    → (textAt (Takes taken text table) more next ∷ textAt NoRecord more next ∷ textAt Partial more next ∷ textAt AtEnd more next ∷ [])
+    ≡ (text ++ more taken table) ∷ cutLine next ∷ cutLine next ∷ endLine (next - 1) ∷ []
 unfolding textAt
-itemTexts e text next = refl
+itemTexts taken text table more next = refl
 
 -- numbers are printed in decimal with no leading zeros: the digits stand for the number, and the first is not 0, but in 0 itself
 pub decimalIsTheNumber : (n : ℕ) → valueFrom 0 (decimal n) ≡ n

@@ -1,7 +1,7 @@
 // Runs the replay of the library over small traces, each in parts of every size from one octet up, and counts the runs whose text is not
 // the one that docs/RULES.md asks for ("The trace and its replay").
 use libc::STDOUT_FILENO;
-use trace::Stage;
+use parts::Stage;
 ghost use Prim.Native.Nat.{_≤_};
 
 // Where a run stands: how many octets of the trace it took and was shown, and how many octets of text it wrote.
@@ -82,7 +82,7 @@ fn ends_as(p: Place, whole: &[u8], want: &[u8], text: &mut [u8]) -> bool {
     if whole.len() < at || text.len() < written {
         return false;
     }
-    let n = trace::finish(stage, &whole[at..], &mut text[written..]);
+    let n = parts::finish(stage, &whole[at..], &mut text[written..]);
     if text.len() < written + n {
         return false;
     }

@@ -10,9 +10,10 @@ use Rattle.words.specs.Words as words
 use Rattle.layout.specs.Layout.{recordsIn, counterIn, stateAt, flagsAt, flagsOf, recordOf, putOctets, putCounter, putRank}
 use Rattle.circuit.specs.Rows.{first}
 use Rattle.records.specs.Records.{octetsOf, recorded, item}
-use Rattle.trace.specs.Replay.{happens, textAt, linesWithin, lines, replay}
+use Rattle.parts.specs.Whole.{textAt, linesWithin, lines, whole}
+use Rattle.trace.specs.Replay.{happens, replay}
 use Rattle.trace.specs.Cases.{wholeCase, wholeText}
 
 pub theWholeCase : replay wholeCase ≡ wholeText
-unfolding first words.number words.put recordsIn counterIn stateAt flagsAt flagsOf recordOf putOctets putCounter putRank replay lines linesWithin textAt item recorded octetsOf happens stepIn stepFound step eventOf line groupLine endLine cutLine field stateAndFlags headings decimal digitsWithin
+unfolding first words.number words.put recordsIn counterIn stateAt flagsAt flagsOf recordOf putOctets putCounter putRank whole lines linesWithin textAt item recorded octetsOf happens stepIn stepFound step eventOf line groupLine endLine cutLine field stateAndFlags headings decimal digitsWithin
 theWholeCase = refl

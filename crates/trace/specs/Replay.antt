@@ -1,21 +1,23 @@
--- What a replay prints (docs/RULES.md, "The trace and its replay"), as octets, from the octets of the whole trace.
+-- What a replay prints (docs/RULES.md, "The trace and its replay"), as octets, from the octets of the whole trace: what each record does, and its line.
+-- How line follows line, and the first and the last, is the same for every file that is made into text: `parts/specs/Whole`.
 -- Assumes nothing.
-use mathlib.Core.Bool.{cond}
-use mathlib.Core.List.{List, [], _++_}
-use Prim.Native.Nat.{ℕ, zero, suc, _+_, _-_}
-use lib.ListN.{length, drop}
+use mathlib.Core.List.{List}
+use Prim.Native.Nat.{ℕ, min}
 use Rattle.codes.specs.Numbers.{eventOf}
 use Rattle.codes.specs.Headings.{firstHeading, secondHeading}
 use Rattle.answers.specs.Answers.{Answer}
 use Rattle.layout.specs.Layout as grouped
 use Rattle.group.specs.Table.{Step, stepIn}
 use Rattle.text.specs.declared.Line.{Line}
-use Rattle.text.specs.Lines.{line, groupLine, endLine, cutLine, badGroupLine}
+use Rattle.text.specs.Lines.{line}
 use Rattle.records.specs.declared.Recorded.{Recorded}
 use Rattle.records.specs.declared.Item.{Item}
 use Rattle.records.specs.declared.Item.the-variants.{Event, NoEvent, Short, End}
-use Rattle.trace.specs.declared.Running.{Running}
-use Rattle.records.specs.Records.{octetsOf, item, ownIn, farIn, circuitsIn, badStart}
+use Rattle.records.specs.Records.{octetsOf, item}
+use Rattle.parts.specs.declared.Running.{Running}
+use Rattle.parts.specs.declared.Stage.{Stage}
+use Rattle.parts.specs.declared.Stage.the-variants.{Start, Bad, Runs, Cut}
+use Rattle.parts.specs.Whole.{Ahead, Ahead.Takes, Ahead.NoRecord, Ahead.Partial, Ahead.AtEnd, Making, whole}
 
 -- what an event does in the group, on the table as all events before it left it
 unfoldable pub happens : Running → List ℕ → Recorded → Step
@@ -37,37 +39,28 @@ lineOf ordinal circuit a = record {
 abbrev pub eventText : Running → List ℕ → Recorded → List ℕ
 eventText r table e = line (lineOf (r .next) (e .circuit) (happens r table e .answer))
 
--- the next event has the next ordinal
-abbrev pub onward : Running → Running
-onward r = record { own = r .own; far = r .far; circuits = r .circuits; next = r .next + 1 }
-
--- what is printed for each case of an `Item`, where `next` is the next event's ordinal: for an event its line and all that follows, as `text`
--- gives it; for an octet that starts no event, and for a record cut short, "cut" and that ordinal; where nothing more stands, "end" and the number of events
-unfoldable pub textAt : Item → (Recorded → List ℕ) → ℕ → List ℕ
-textAt (Event e) text next = text e
-textAt NoEvent text next = cutLine next
-textAt Short text next = cutLine next
-textAt End text next = endLine (next - 1)
-
--- the lines of the events in these octets, and the last line; k bounds the number of records
-unfoldable pub linesWithin : ℕ → Running → List ℕ → List ℕ → List ℕ
-linesWithin zero r table s = []
-linesWithin (suc k) r table s =
-    textAt (item s) (λ e. eventText r table e ++ linesWithin k (onward r) (happens r table e .table) (drop (octetsOf (e .kind)) s)) (r .next)
-
-unfoldable pub lines : Running → List ℕ → List ℕ → List ℕ
-lines r table s = linesWithin (suc (length s)) r table s
-
--- the group of a trace, before its first event
-abbrev pub opened : List ℕ → Running
-opened s = record { own = record { 0 = ownIn s }; far = record { 0 = farIn s }; circuits = circuitsIn s; next = 1 }
+-- what stands ahead, for each case of an `Item`: an event takes its record's octets, prints its line and leaves the table so
+abbrev pub aheadOf : Item → Running → List ℕ → Ahead (List ℕ)
+aheadOf (Event e) r table = Takes (octetsOf (e .kind)) (eventText r table e) (happens r table e .table)
+aheadOf NoEvent r table = NoRecord
+aheadOf Short r table = Partial
+aheadOf End r table = AtEnd
 
 -- all records idle
 abbrev pub idle : ℕ → List ℕ
 idle circuits = grouped.idle (grouped.tableOctets circuits)
 
+-- a replay starts with all records idle, and the table goes along from event to event
+abbrev pub replaying : Making (List ℕ)
+replaying = record { fresh = idle; ahead = λ r table s. aheadOf (item s) r table }
+
 -- the whole text
-unfoldable pub replay : List ℕ → List ℕ
-replay s =
-    cond (badStart s) badGroupLine
-    (groupLine (ownIn s) (farIn s) (circuitsIn s) ++ lines (opened s) (idle (circuitsIn s)) (drop (octetsOf 0) s))
+abbrev pub replay : List ℕ → List ℕ
+replay s = whole replaying s
+
+-- the octets of the group's table, which is empty before the group is known
+abbrev pub tableOctets : Stage → ℕ
+tableOctets Start = 0
+tableOctets Bad = 0
+tableOctets (Runs r) = grouped.tableOctets (min (r .circuits) 4096)
+tableOctets (Cut next) = 0

@@ -1,10 +1,8 @@
 -- `trace::feed` meets its contract.
 -- Assumes nothing.
 use native.Mathlib.Omega.{arith}
--- `trace::feed` meets its contract.
--- Assumes nothing.
-use Rattle.trace.proofs.Opening.{begunIn}
-use Rattle.trace.specs.Feed.{fed}
+use Rattle.parts.proofs.Opening.{begunIn}
+use Rattle.parts.specs.Feed.{fed}
 use mathlib.Core.Path.{refl}
 use borrow.Author.Needs.{needs}
 use Rattle.trace.proofs.feed.Statement.{statement}

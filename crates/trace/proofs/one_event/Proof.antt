@@ -1,24 +1,18 @@
 -- `trace::one_event` meets its contract.
 -- Assumes nothing.
-use Rattle.trace.proofs.Turns.{noRoom, noOrdinal, mayTake}
+use mathlib.Core.Path.{sym, _∙_}
+use Rattle.parts.proofs.Turns.{roomThere, nothingLands, mayTake, mayNot}
 use borrow.Author.Needs.{needs}
 use Rattle.trace.proofs.one_event.Statement.{statement}
 use Rattle.trace.proofs.one_event.Tie as tie
 
-no-turn-requires : tie.Need-no-turn-requires
-no-turn-requires c κs = search needs
-
-returns : tie.Need-returns
-returns c = rw (c .no-turn .ensures) (noRoom _ _ _ _ (c .before .if1 .taken))
-
-no-turn-requires-2 : tie.Need-no-turn-requires-2
-no-turn-requires-2 c κs = search needs
-
-returns-2 : tie.Need-returns-2
-returns-2 c = rw (c .no-turn2 .ensures) (noOrdinal _ _ _ _ (c .before .if2 .taken) (c .before .before .before .if1 .left))
+may-go-requires : tie.Need-may-go-requires
+may-go-requires c κs = search needs
 
 one-item-requires : tie.Need-one-item-requires
-one-item-requires c κs = search needs
+one-item-requires c κs =
+    let b = c .before .before in
+    roomThere (b .before .before .before .before .args .r) _ (sym (b .before .may-go .ensures) ∙ b .if1 .taken)
 
 same-length : tie.Need-same-length
 same-length c = search needs
@@ -26,21 +20,25 @@ same-length c = search needs
 same-length-2 : tie.Need-same-length-2
 same-length-2 c = search needs
 
-returns-3 : tie.Need-returns-3
-returns-3 c =
-    let d = c .before .before .before .before .before .before .before in
-    let a = d .before .before .before .before .before .args in
-    rw (mayTake (a .i) (a .r) (a .table .now) (a .room .now) (d .before .before .if1 .left) (d .if2 .left) (search needs)) (c .before .before .before .before .one-item .ensures)
+returns : tie.Need-returns
+returns c =
+    let b = c .before .before .before .before .before .before .before in
+    rw (mayTake _ _ _ _ (sym (b .before .may-go .ensures) ∙ b .if1 .taken)) (c .before .before .before .before .one-item .ensures)
+
+no-turn-requires : tie.Need-no-turn-requires
+no-turn-requires c κs = search needs
+
+returns-2 : tie.Need-returns-2
+returns-2 c = rw (c .no-turn .ensures, mayNot _ _ _ _ (sym (c .before .before .may-go .ensures) ∙ c .before .if1 .left)) (nothingLands _ _)
 
 pub one-event-spec : {M : Type 1} → statement M
 one-event-spec =
     tie.close
     (tie.spec
-    no-turn-requires
-    returns
-    no-turn-requires-2
-    returns-2
+    may-go-requires
     one-item-requires
     same-length
     same-length-2
-    returns-3)
+    returns
+    no-turn-requires
+    returns-2)

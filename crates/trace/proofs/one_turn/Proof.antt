@@ -5,10 +5,12 @@ use Prim.Native.Nat.{_-_}
 use native.Mathlib.Omega.{arith}
 use lib.ListN.{length}
 use borrow.Rule.Slice.PartMut.{midOf}
-use Rattle.trace.specs.declared.Turn.{Turn}
-use Rattle.trace.specs.Feed.{shareAt}
-use Rattle.trace.proofs.Runs.{ordinal}
-use Rattle.trace.proofs.Loop.{turnOver, turnOn, writtenIn}
+use Rattle.parts.specs.declared.Turn.{Turn}
+use Rattle.parts.specs.Feed.{shareAt}
+use Rattle.parts.proofs.Rooms.{writtenIn}
+use Rattle.parts.proofs.Turns.{goesOnward}
+use Rattle.trace.specs.Replay.{aheadOf}
+use Rattle.trace.proofs.Loop.{turnOver, turnOn}
 use borrow.Author.Needs.{needs}
 use Rattle.trace.proofs.one_turn.Statement.{statement}
 use Rattle.trace.proofs.one_turn.Tie as tie
@@ -36,14 +38,10 @@ returns c =
     let b = c in
     let o = b .before .before .before .before .before .before .one-event in
     let a = b .before .before .before .before .before .before .before .before .before .before .before .before .args in
-    turnOver (a .i) (a .g) (a .table .now) (a .room .now) _ _ _ (o .ensures .0) (o .ensures .1 .0) (o .ensures .1 .1) (o .kept .1 .1 .0) (o .kept .1 .1 .1 .0) (b .if1 .taken)
+    turnOver (a .i) (a .g) (a .table .now) (a .room .now) _ _ _ (o .ensures) (o .kept .1 .1 .0) (o .kept .1 .1 .1 .0) (b .if1 .taken)
 
 onward-requires : tie.Need-onward-requires
-onward-requires c κs =
-    let b = c in
-    let o = b .before .before .before .before .before .before .one-event in
-    let a = b .before .before .before .before .before .before .before .before .before .before .before .before .args in
-    ordinal (a .i) _ _ _ (λ z. b .if1 .left (ap (λ (t : Turn). t .taken) (o .ensures .0) ∙ z))
+onward-requires c κs = search needs
 
 add-t12 : tie.Need-add-t12
 add-t12 c =
@@ -51,7 +49,7 @@ add-t12 c =
     let o = b .before .before .before .before .before .before .one-event in
     let a = b .before .before .before .before .before .before .before .before .before .before .before .before .args in
     let m = midOf (a .g .written) (length (a .room .now) - a .g .written) (a .room .now) in
-    omega (arith, ap (λ (t : Turn). t .written) (o .ensures .0), writtenIn (a .room .now) (shareAt (a .i) (a .g .here) (a .table .now) (length m) .text) (o .last .1 .1 .1 .0) (a .g .written) (o .ensures .1 .1) (o .kept .1 .1 .1 .0), b .before .before .before .before .before .before .before .before .before .before .before .before .pre, b .before .before .before .before .before .before .before .before .before .before .before .before .good .1 .1 .1 .0 .0)
+    omega (arith, ap (λ (t : Turn). t .written) (o .ensures .answers), writtenIn (a .room .now) (a .g .written) (shareAt (aheadOf (a .i) (a .g .here) (a .table .now)) (a .g .here) (a .table .now) (length m) .text) (o .last .1 .1 .1 .0) (o .ensures .writes) (o .kept .1 .1 .1 .0), b .before .before .before .before .before .before .before .before .before .before .before .before .pre, b .before .before .before .before .before .before .before .before .before .before .before .before .good .1 .1 .1 .0 .0)
 
 same-length-3 : tie.Need-same-length-3
 same-length-3 c = search needs
@@ -64,7 +62,8 @@ returns-2 c =
     let b = c .before .before in
     let o = b .before .before .before .before .before .before .one-event in
     let a = b .before .before .before .before .before .before .before .before .before .before .before .before .args in
-    turnOn (a .i) (a .g) (a .table .now) (a .room .now) _ _ _ (o .ensures .0) (o .ensures .1 .0) (o .ensures .1 .1) (o .kept .1 .1 .0) (o .kept .1 .1 .1 .0) (b .if1 .left) _ (c .before .onward .ensures)
+    let p = b .if1 .left in
+    turnOn (a .i) (a .g) (a .table .now) (a .room .now) _ _ _ (o .ensures) (o .kept .1 .1 .0) (o .kept .1 .1 .1 .0) p _ (c .before .onward .ensures ∙ goesOnward (aheadOf (a .i) (a .g .here) (a .table .now)) (a .g .here) (a .table .now) _ (λ z. p (ap (λ (t : Turn). t .taken) (o .ensures .answers) ∙ z)))
 
 pub one-turn-spec : {M : Type 1} → statement M
 one-turn-spec =

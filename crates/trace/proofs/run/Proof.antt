@@ -63,17 +63,19 @@ use Rattle.records.proofs.here.Met as here-met
 use Rattle.records.proofs.next as next-fn
 use Rattle.records.proofs.next.Symbol as next-is
 use Rattle.records.proofs.next.Met as next-met
-use Rattle.trace.specs.declared.Running.{Running}
+use Rattle.parts.specs.declared.Running.{Running}
+use Rattle.parts.specs.declared.Fed.{Fed}
+use Rattle.parts.specs.Feed.{share}
+use Rattle.parts.specs.Way.{Ran}
+use Rattle.parts.proofs.Running as N
+use Rattle.parts.proofs.Running.Laws as N′
+use Rattle.parts.proofs.Fed as F
+use Rattle.parts.proofs.Fed.Laws as F′
 use Rattle.trace.specs.declared.Going.{Going}
-use Rattle.trace.specs.declared.Fed.{Fed}
-use Rattle.trace.specs.Feed.{share}
-use Rattle.trace.specs.Way.{started, Goes, ended, Ran}
-use Rattle.trace.proofs.Running as N
-use Rattle.trace.proofs.Running.Laws as N′
+use Rattle.trace.specs.Replay.{replaying}
+use Rattle.trace.specs.Way.{started, Goes, ended}
 use Rattle.trace.proofs.Going as G
 use Rattle.trace.proofs.Going.Laws as G′
-use Rattle.trace.proofs.Fed as F
-use Rattle.trace.proofs.Fed.Laws as F′
 use Rattle.trace.proofs.Relent.{Keeps, lend, regain}
 use Rattle.trace.proofs.Loop.{Sofar, first as at-first, nearer, again as goes-again, stopped, wentOver, wentFurther}
 use Rattle.trace.proofs.started as started-fn
@@ -125,7 +127,7 @@ record Stand (r : Running) (table₀ part room₀ : List ℕ) : Type 0 where
   table : List ℕ
   room : List ℕ
   at : ℕ
-  sofar : Sofar r table₀ part room₀ (g .here) table room at (g .written)
+  sofar : Sofar r table₀ part room₀ g table room at
   is : Is G.the-row g (G′.lowered g ∷ [])
 
 -- the six contracts
@@ -270,10 +272,10 @@ module _ {M : Type 1} (𝓤 : URA M) (H : Heap 𝓤) (A : Atoms 𝓤) (W : Given
   big₀At t = subst (Room u8) (sym (t .sofar .tableKept)) big₀
 
   big₂At : (t : Standing) → Room u8 (length (t .room))
-  big₂At t = subst (Room u8) (sym (t .sofar .roomKept)) big₂
+  big₂At t = subst (Room u8) (sym (t .sofar .run .roomKept)) big₂
 
   outIn : (t : Standing) → t .g .written ≤ length (t .room)
-  outIn t = subst (λ (n : ℕ). t .g .written ≤ n) (sym (t .sofar .roomKept)) (t .sofar .outIn)
+  outIn t = subst (λ (n : ℕ). t .g .written ≤ n) (sym (t .sofar .run .roomKept)) (t .sofar .run .outIn)
 
   -- one turn, with table and room lent for the lifetimes α and β under the names δ and ε
   abbrev turn-args : Standing → GName → GName → Item → Item × (Going × (RefT (List ℕ) × (RefT (List ℕ) × Unit {0})))
@@ -320,7 +322,7 @@ module _ {M : Type 1} (𝓤 : URA M) (H : Heap 𝓤) (A : Atoms 𝓤) (W : Given
   Went t q table' room' = Goes (stands (t .at)) (t .g) (t .table) (t .room) q table' room'
 
   abbrev taken : Standing → ℕ
-  taken t = share (t .g .here) (t .table) (drop-list (t .at) (now s)) (length (t .room) - t .g .written) .taken
+  taken t = share replaying (t .g .here) (t .table) (drop-list (t .at) (now s)) (length (t .room) - t .g .written) .taken
 
   taken-some : (t : Standing) (q : Going) (table' room' : List ℕ) → Went t q table' room' → q .over ≡ false → taken t ≡ 0 → ⊥
   taken-some t q table' room' went = wentFurther r table₀ (now s) room₀ (t .g) (t .table) (t .room) (t .at) (t .sofar) q table' room' went
@@ -340,7 +342,7 @@ module _ {M : Type 1} (𝓤 : URA M) (H : Heap 𝓤) (A : Atoms 𝓤) (W : Given
 
   -- where the loop is left: what the contract says, and that table and room have kept their lengths
   ran : (t : Standing) (q : Going) (table' room' : List ℕ) (went : Went t q table' room') → q .over ≡ true
-      → (i : Item) → i ≡ stands (t .at) → (a : Fed) → a ≡ ended i (t .at) q → Ran r table₀ (now s) room₀ a table' room'
+      → (i : Item) → i ≡ stands (t .at) → (a : Fed) → a ≡ ended i (t .at) q → Ran replaying r table₀ (now s) room₀ a table' room'
   ran t q table' room' went over i ei a ea =
       rw (ea, ei)
       (stopped r table₀ (now s) room₀ (t .g) (t .table) (t .room) (t .at) (t .sofar) q table' room' went (wentOver r table₀ (now s) room₀ (t .g) (t .table) (t .room) (t .at) (t .sofar) q table' room' went over))
@@ -349,9 +351,9 @@ module _ {M : Type 1} (𝓤 : URA M) (H : Heap 𝓤) (A : Atoms 𝓤) (W : Given
   tableLength t q table' room' went = went .keepsTable ∙ t .sofar .tableKept
 
   roomLength : (t : Standing) (q : Going) (table' room' : List ℕ) → Went t q table' room' → length room' ≡ length room₀
-  roomLength t q table' room' went = went .keepsRoom ∙ t .sofar .roomKept
+  roomLength t q table' room' went = went .keepsRoom ∙ t .sofar .run .roomKept
 
-  exit : (a : Fed) (v : Val) (table' room' : List ℕ) → Ran r table₀ (now s) room₀ a table' room' → length table' ≡ length table₀ → length room' ≡ length room₀
+  exit : (a : Fed) (v : Val) (table' room' : List ℕ) → Ran replaying r table₀ (now s) room₀ a table' room' → length table' ≡ length table₀ → length room' ≡ length room₀
       → ent 𝓤 (⋆ 𝓤 H A (‵ (F.the-row .own a (v ∷ [])) ∷ ‵ (flft κ₀ q₀) ∷ (‵ (flft κ₁ q₁) ⊛ ‵ ftrue) ∷ ‵ (flft κ₂ q₂) ∷ ‵ (TableAs table' table') ∷ ‵ Slice ∷ ‵ (RoomAs room' room') ∷ [])) (Post v)
   exit a v table' room' says-so e₀ e₂ =
       qed W (‵ (F.the-row .own a (v ∷ [])) ∷ ‵ (flft κ₀ q₀) ∷ (‵ (flft κ₁ q₁) ⊛ ‵ ftrue) ∷ ‵ (flft κ₂ q₂) ∷ ‵ (TableAs table' table') ∷ ‵ Slice ∷ ‵ (RoomAs room' room') ∷ []) ∵

@@ -1,13 +1,11 @@
--- `trace::last_of` meets its contract.
+-- `parts::last_of` meets its contract.
 -- Assumes nothing.
-use Rattle.trace.proofs.Loop.{printedIn}
--- `trace::last_of` meets its contract.
--- Assumes nothing.
-use Rattle.trace.specs.Feed.{lastLine}
+use Rattle.parts.proofs.Rooms.{printedIn}
+use Rattle.parts.specs.Feed.{lastLine}
 use borrow.Author.Tests.{ne-eqb}
 use borrow.Author.Needs.{needs}
-use Rattle.trace.proofs.last_of.Statement.{statement}
-use Rattle.trace.proofs.last_of.Tie as tie
+use Rattle.parts.proofs.last_of.Statement.{statement}
+use Rattle.parts.proofs.last_of.Tie as tie
 
 before-requires : tie.Need-before-requires
 before-requires c κs = search needs

@@ -1,12 +1,10 @@
--- `trace::finish` meets its contract.
+-- `parts::finish` meets its contract.
 -- Assumes nothing.
-use Rattle.trace.proofs.Loop.{printedIn}
--- `trace::finish` meets its contract.
--- Assumes nothing.
-use Rattle.trace.specs.Feed.{lastLine}
+use Rattle.parts.proofs.Rooms.{printedIn}
+use Rattle.parts.specs.Feed.{lastLine}
 use borrow.Author.Needs.{needs}
-use Rattle.trace.proofs.finish.Statement.{statement}
-use Rattle.trace.proofs.finish.Tie as tie
+use Rattle.parts.proofs.finish.Statement.{statement}
+use Rattle.parts.proofs.finish.Tie as tie
 
 enum-told : tie.Need-enum-told
 enum-told c = search needs

@@ -9,7 +9,7 @@ use lib.ListN.{length, getD, set, take, drop, length-append, length-drop}
 use lib.Seq.{length-take-le, take-suc, drop-cons, append-snoc, getD-append-add, getD-drop, set-at}
 use borrow.Author.Tests.{lt-ltb, le-ltb}
 use Rattle.words.specs.Octets.{over}
-use Rattle.trace.specs.Feed.{kept}
+use Rattle.parts.specs.Feed.{kept}
 
 module _ (p : List ℕ) (at i : ℕ) (h : at + i < length p) where
   x : List ℕ

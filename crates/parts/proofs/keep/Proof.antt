@@ -1,6 +1,6 @@
--- `trace::keep` meets its contract.
+-- `parts::keep` meets its contract.
 -- Assumes nothing.
-use Rattle.trace.proofs.Kept.{keepMore, noneKept, crossed, allKept}
+use Rattle.parts.proofs.Kept.{keepMore, noneKept, crossed, allKept}
 use Rattle.words.specs.Octets.{over}
 use borrow.Author.Needs.{needs}
 use lib.Seq.{length-take-le}
@@ -8,8 +8,8 @@ use lib.ListN.{length, take, drop, length-set, length-drop}
 use native.Mathlib.Omega.{arith}
 use Prim.Native.Nat.{_-_, _≤_}
 use mathlib.Core.Path.{_≡_, refl, sym}
-use Rattle.trace.proofs.keep.Statement.{statement}
-use Rattle.trace.proofs.keep.Tie as tie
+use Rattle.parts.proofs.keep.Statement.{statement}
+use Rattle.parts.proofs.keep.Tie as tie
 
 abbrev Inv-loop : tie.InvT-loop
 Inv-loop buffer₀ at have n i₀ buffer i = (i ≤ n) × (buffer ≡ over (take i (drop at buffer₀)) buffer₀) × (length buffer ≡ length buffer₀)

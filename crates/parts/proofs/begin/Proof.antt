@@ -1,10 +1,10 @@
--- `trace::begin` meets its contract.
+-- `parts::begin` meets its contract.
 -- Assumes nothing.
-use Rattle.trace.proofs.Opening.{tooFew, isRefused, noLine, opens}
+use Rattle.parts.proofs.Opening.{tooFew, isRefused, noLine, opens}
 use mathlib.Core.Path.{sym, _∙_}
 use borrow.Author.Needs.{needs}
-use Rattle.trace.proofs.begin.Statement.{statement}
-use Rattle.trace.proofs.begin.Tie as tie
+use Rattle.parts.proofs.begin.Statement.{statement}
+use Rattle.parts.proofs.begin.Tie as tie
 
 octets-of-requires : tie.Need-octets-of-requires
 octets-of-requires c κs = search needs

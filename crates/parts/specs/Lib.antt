@@ -1,0 +1,4 @@
+pub mod Whole
+pub mod Feed
+pub mod Schedule
+pub mod Way
