@@ -28,11 +28,11 @@ slice-aggregate-write-all c = let f = c .before .before .before .finish in sym (
 write-all-requires : tie.Need-write-all-requires
 write-all-requires c κs = search needs
 
-slice-aggregate-fail : tie.Need-slice-aggregate-fail
-slice-aggregate-fail c = search needs
+slice-aggregate-failed : tie.Need-slice-aggregate-failed
+slice-aggregate-failed c = search needs
 
-fail-requires : tie.Need-fail-requires
-fail-requires c κs = search needs
+failed-requires : tie.Need-failed-requires
+failed-requires c κs = search needs
 
 same-length : tie.Need-same-length
 same-length c = search needs
@@ -66,8 +66,8 @@ last-line-spec =
     slice-reshare-prefix-write-all
     slice-aggregate-write-all
     write-all-requires
-    slice-aggregate-fail
-    fail-requires
+    slice-aggregate-failed
+    failed-requires
     same-length
     returns-2
     part-hint-start

@@ -44,7 +44,7 @@ slice-reshare-prefix-write : tie.Need-slice-reshare-prefix-write
 slice-reshare-prefix-write c = search needs
 
 slice-aggregate-write : tie.Need-slice-aggregate-write
-slice-aggregate-write c = let f = c .before .before .before .before .before .before .feed in sym (length-take-le _ _ (omega (arith, f .ensures .1 .1 .1 .1, f .kept .1 .1 .1 .0)))
+slice-aggregate-write c = let f = c .before .before .before .before .before .before .feed in sym (length-take-le _ _ (omega (arith, f .ensures .1, f .kept .1 .1 .1 .1 .0)))
 
 write-requires : tie.Need-write-requires
 write-requires c κs = search needs
@@ -54,6 +54,9 @@ slice-aggregate-failed c = search needs
 
 failed-requires : tie.Need-failed-requires
 failed-requires c κs = search needs
+
+stopped-requires : tie.Need-stopped-requires
+stopped-requires c κs = search needs
 
 same-length : tie.Need-same-length
 same-length c = search needs
@@ -93,6 +96,7 @@ take-spec =
     write-requires
     slice-aggregate-failed
     failed-requires
+    stopped-requires
     same-length
     same-length-2
     returns-2

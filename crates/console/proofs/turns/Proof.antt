@@ -7,10 +7,10 @@ use Rattle.console.proofs.turns.Statement.{statement}
 use Rattle.console.proofs.turns.Tie as tie
 
 abbrev Inv-loop : tie.InvT-loop
-Inv-loop job table₀ buffer₀ room₀ p₀ left₀ t8 table buffer room p left = (length table ≡ length table₀) × (length buffer ≡ length buffer₀) × (length room ≡ length room₀)
+Inv-loop name job table₀ buffer₀ room₀ p₀ left₀ t8 table buffer room p left = (length table ≡ length table₀) × (length buffer ≡ length buffer₀) × (length room ≡ length room₀)
 
 abbrev μ-loop : tie.MeasureT-loop
-μ-loop job table₀ buffer₀ room₀ p₀ left₀ t8 table buffer room p left = left
+μ-loop name job table₀ buffer₀ room₀ p₀ left₀ t8 table buffer room p left = left
 
 loop-holds : tie.Need-loop-holds Inv-loop μ-loop
 loop-holds c = (refl, refl, refl)

@@ -6,10 +6,10 @@ use Rattle.console.proofs.arguments.read.Statement.{statement}
 use Rattle.console.proofs.arguments.read.Tie as tie
 
 abbrev Inv-loop : tie.InvT-loop
-Inv-loop count a₀ i₀ a i = Unit {0}
+Inv-loop name count a₀ i₀ a i = Unit {0}
 
 abbrev μ-loop : tie.MeasureT-loop
-μ-loop count a₀ i₀ a i = count - i
+μ-loop name count a₀ i₀ a i = count - i
 
 arg-count-requires : tie.Need-arg-count-requires Inv-loop μ-loop
 arg-count-requires c κs = search needs

@@ -8,10 +8,10 @@ use Rattle.console.proofs.wording.named.Statement.{statement}
 use Rattle.console.proofs.wording.named.Tie as tie
 
 abbrev Inv-loop : tie.InvT-loop
-Inv-loop lines room₀ p₀ i₀ room p i = (i ≤ length lines) × (length room ≡ length room₀)
+Inv-loop kinds lines room₀ p₀ i₀ room p i = (i ≤ length lines) × (length room ≡ length room₀)
 
 abbrev μ-loop : tie.MeasureT-loop
-μ-loop lines room₀ p₀ i₀ room p i = length lines - i
+μ-loop kinds lines room₀ p₀ i₀ room p i = length lines - i
 
 loop-holds : tie.Need-loop-holds Inv-loop μ-loop
 loop-holds c = (search needs, refl)

@@ -9,10 +9,10 @@ use Rattle.console.proofs.wording.write_by.Statement.{statement}
 use Rattle.console.proofs.wording.write_by.Tie as tie
 
 abbrev Inv-loop : tie.InvT-loop
-Inv-loop lines room₀ at₀ room at = (at ≤ length lines) × (length room ≡ length room₀)
+Inv-loop kinds lines room₀ at₀ room at = (at ≤ length lines) × (length room ≡ length room₀)
 
 abbrev μ-loop : tie.MeasureT-loop
-μ-loop lines room₀ at₀ room at = length lines - at
+μ-loop kinds lines room₀ at₀ room at = length lines - at
 
 loop-holds : tie.Need-loop-holds Inv-loop μ-loop
 loop-holds c = (search needs, refl)
