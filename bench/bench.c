@@ -18,7 +18,7 @@
 enum { ITEMS = 1 << 18, CHOICES = 1 << 8, CHOICES_OF_FEW = 1 << 14, TABLES = 16, FEW = 30, ROUNDS = 15 };
 
 typedef uint64_t (*selector)(uint32_t, uint32_t, const uint8_t *, size_t);
-typedef uint32_t (*reader)(uint32_t, uint32_t, uint32_t, const uint8_t *, size_t, uint8_t *, size_t);
+typedef uint64_t (*reader)(uint32_t, uint32_t, uint32_t, const uint8_t *, size_t, uint8_t *, size_t);
 typedef uint32_t (*writer)(uint32_t, uint32_t, uint32_t, uint32_t, uint32_t, uint32_t, uint32_t, uint32_t, const uint8_t *, size_t,
                            uint8_t *, size_t);
 

@@ -155,8 +155,11 @@ uint64_t exchange_command(struct exchange *x, uint32_t circuit, uint32_t command
 int exchange_receive(struct exchange *x, const uint8_t *octets, size_t len)
 {
     uint8_t fields[TUP_MESSAGE_OCTETS];
-    if (tup_read(x->own, x->far, CIRCUITS, octets, len, fields, sizeof fields) != TUP_ACCEPTED)
+    uint64_t read = tup_read(x->own, x->far, CIRCUITS, octets, len, fields, sizeof fields);
+    if (tup_read_refusal(read) != TUP_ACCEPTED) {
+        x->refuse(x, octets, len, read);
         return 0;
+    }
     uint32_t circuit = tup_message_circuit(fields);
     signal_passed(x, circuit);
     if (x->shut[circuit])

@@ -18,9 +18,11 @@ struct exchange {
     uint32_t own, far;
     unsigned round_trip; /* seconds in which a signal crosses, is answered and the answer is back, at the longest */
 
-    /* Called with what is to go on the link, and after each event with what was answered. */
+    /* Called with what is to go on the link; after each event with what was answered; and with a message that cannot be read and
+       what tup_read answered, for the log. */
     void (*send)(struct exchange *x, uint32_t circuit, const uint8_t *octets, size_t len);
     void (*tell)(struct exchange *x, uint32_t circuit, uint32_t kind, uint32_t code, uint64_t answer);
+    void (*refuse)(struct exchange *x, const uint8_t *octets, size_t len, uint64_t answer);
     /* Which of the timers that are due may run out: tup_timers_now. A pointer so that the tests can show what happens without. */
     uint32_t (*may_run_out)(uint32_t due, int quiet);
 

@@ -19,12 +19,17 @@ static int broken; /* the link loses what is sent */
 static struct exchange exchanges[2];
 static struct exchange *const a = &exchanges[0], *const b = &exchanges[1];
 
+static void print_octets(const uint8_t *octets, size_t len)
+{
+    for (size_t i = 0; i < len; i++)
+        printf(" %02x", octets[i]);
+}
+
 static void send(struct exchange *x, uint32_t circuit, const uint8_t *octets, size_t len)
 {
     struct queue *queue = &sent[x - exchanges];
     printf("%5u s  %s sends %s %u   ", x->seconds, x->name, tup_heading_name(octets[5]), circuit);
-    for (size_t i = 0; i < len; i++)
-        printf(" %02x", octets[i]);
+    print_octets(octets, len);
     printf(broken ? "  (lost)\n" : "\n");
     if (broken || queue->waiting == QUEUE)
         return;
@@ -54,6 +59,16 @@ static void tell(struct exchange *x, uint32_t circuit, uint32_t kind, uint32_t c
     if (tup_answer_indication(answer) != TUP_IND_NOTHING)
         printf(" (%s)", tup_indication_name(tup_answer_indication(answer)));
     printf("\n");
+}
+
+/* Whoever looks for the fault at the far end needs the message, why it was refused, and where. */
+static void refuse(struct exchange *x, const uint8_t *octets, size_t len, uint64_t answer)
+{
+    uint32_t refusal = tup_read_refusal(answer);
+    printf("%5u s  %s refuses", x->seconds, x->name);
+    print_octets(octets, len);
+    printf(": %s, ", tup_refusal_name(refusal));
+    printf(refusal == TUP_WRONG_LENGTH ? "%llu octets\n" : "octet %llu\n", (unsigned long long)tup_read_place(answer));
 }
 
 /* Takes the oldest message that the other exchange sent. */
@@ -154,6 +169,19 @@ static void scene_reset(void)
     wait_seconds(ROUND_TRIP + 1);
 }
 
+static void scene_refused(void)
+{
+    static const uint8_t clf_from_3[] = {0x02, 0xc0, 0x00, 0x00, 0x00, 0x46}, no_heading[] = {0x02, 0x40, 0x00, 0x00, 0x00, 0x21},
+                         short_acm[] = {0x02, 0x40, 0x00, 0x00, 0x00, 0x14}, clf_on_5[] = {0x02, 0x40, 0x00, 0x50, 0x00, 0x46},
+                         spare_digit[] = {0x02, 0x40, 0x00, 0x00, 0x00, 0x11, 0x0a, 0x00, 0x30, 0x21, 0x0d};
+    printf("\nA writes messages that it cannot read into its log\n");
+    exchange_receive(a, clf_from_3, sizeof clf_from_3);
+    exchange_receive(a, no_heading, sizeof no_heading);
+    exchange_receive(a, short_acm, sizeof short_acm);
+    exchange_receive(a, clf_on_5, sizeof clf_on_5);
+    exchange_receive(a, spare_digit, sizeof spare_digit);
+}
+
 static void scene_failure(void)
 {
     printf("\nThe link fails while A clears a call, and is back after the 60th second: A then restarts all circuits\n");
@@ -184,7 +212,7 @@ static void begin(struct exchange *x, const char *name, uint32_t own, uint32_t f
 {
     x->name = name, x->own = own, x->far = far;
     x->round_trip = ROUND_TRIP;
-    x->send = send, x->tell = tell;
+    x->send = send, x->tell = tell, x->refuse = refuse;
     x->may_run_out = tup_timers_now;
 }
 
@@ -197,6 +225,7 @@ int main(void)
     scene_dual_seizure();
     scene_lost_block();
     scene_reset();
+    scene_refused();
     scene_failure();
     scene_restart();
     printf("\nAll circuits at the end\n");

@@ -39,7 +39,7 @@
    reads or writes tables itself compares it with the one that it was written for. Format 1 had two octets a record and no
    counter; 2 has the counter and the release ranks. */
 #define TUP_VERSION_MAJOR 4
-#define TUP_VERSION_MINOR 2
+#define TUP_VERSION_MINOR 3
 #define TUP_VERSION_PATCH 0
 #define TUP_VERSION (TUP_VERSION_MAJOR * 10000 + TUP_VERSION_MINOR * 100 + TUP_VERSION_PATCH)
 #define TUP_TABLE_FORMAT 2
@@ -208,10 +208,12 @@ uint64_t tup_step(uint32_t own, uint32_t far, uint8_t *table, size_t table_len, 
    taken apart by the tup_selected_ functions below. Of all calls this is the one whose time grows with the table. */
 uint64_t tup_select(uint32_t own, uint32_t far, const uint8_t *table, size_t table_len);
 
-/* Reads the message of len octets, from its label on, in a group of count circuits. The answer is the refusal; read, the first
+/* Reads the message of len octets, from its label on, in a group of count circuits. The answer is 0 where it was read, else the
+   refusal and the place in the message that it is about, taken apart by the tup_read_ functions below. Read, the first
    TUP_MESSAGE_OCTETS octets of out are its fields and the rest of out keeps its contents; refused, all of out does.
-   Order of refusals: 1; 7 under six octets; 8; 9; 7 by the heading; 10 for no signals; 7 by the count; 10 by the codes; 2; 11. */
-uint32_t tup_read(uint32_t own, uint32_t far, uint32_t count, const uint8_t *octets, size_t len, uint8_t *out, size_t out_len);
+   Order of refusals: 1; 7 under six octets; 8; 9; 7 by the heading; 10 for no signals; 7 by the count; 10 by the codes; 2; 11.
+   Up to version 4.2 the answer was the refusal alone, in 32 bits. */
+uint64_t tup_read(uint32_t own, uint32_t far, uint32_t count, const uint8_t *octets, size_t len, uint8_t *out, size_t out_len);
 
 /* Writes a message. Fields that the heading does not have are 0 and the address empty. address_len is the count of address
    signals, one octet each. The circuit need not be below count, only below 4096. Octets of out beyond the message, and all of
@@ -236,6 +238,14 @@ static inline uint32_t tup_answer_second(uint64_t answer) { return TUP_CAST(uint
 static inline uint32_t tup_selected_refusal(uint64_t answer) { return TUP_CAST(uint32_t, answer & 65535u); }
 static inline uint32_t tup_selected_circuit(uint64_t answer) { return TUP_CAST(uint32_t, answer >> 16 & 65535u); }
 static inline uint32_t tup_selected_looked(uint64_t answer) { return TUP_CAST(uint32_t, answer >> 32 & 65535u); }
+
+/* The answer of tup_read; both are 0 where the message was read. The place is the octet that is wrong, counted from 0:
+   - 8: 0 if DPC is wrong, else 1, where OPC begins; 9: 5, the heading; 2: 3, where the circuit begins;
+   - 10: 8, the count, where it is 0; else the octet of the first address signal that is a spare code, or an ST before the last;
+   - 7: no octet but the length that arrived, len itself, or 2^56 - 1 where it is more than that;
+   - 1 and 11: 0, since the message is not at fault. */
+static inline uint32_t tup_read_refusal(uint64_t answer) { return TUP_CAST(uint32_t, answer & 255u); }
+static inline uint64_t tup_read_place(uint64_t answer) { return answer >> 8; }
 
 /* The answer of tup_write; the length is 0 on a refusal. */
 static inline uint32_t tup_written_refusal(uint32_t answer) { return answer & 255u; }
@@ -306,8 +316,11 @@ static inline enum tup_refusal tup_refusal_of_written(uint32_t answer)
 {
     return TUP_CAST(enum tup_refusal, tup_written_refusal(answer));
 }
-/* The answer of tup_read, and the heading that it put into its output. */
-static inline enum tup_refusal tup_refusal_of_read(uint32_t answer) { return TUP_CAST(enum tup_refusal, answer); }
+static inline enum tup_refusal tup_refusal_of_read(uint64_t answer)
+{
+    return TUP_CAST(enum tup_refusal, tup_read_refusal(answer));
+}
+/* The heading that tup_read put into its output. */
 static inline enum tup_heading tup_heading_of_message(const uint8_t *out)
 {
     return TUP_CAST(enum tup_heading, out[TUP_MESSAGE_HEADING]);

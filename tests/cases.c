@@ -169,7 +169,7 @@ static const struct rank_case {
 
 typedef uint64_t (*stepper)(uint32_t, uint32_t, uint8_t *, size_t, uint32_t, uint32_t, uint32_t, uint32_t);
 typedef uint64_t (*selector)(uint32_t, uint32_t, const uint8_t *, size_t);
-typedef uint32_t (*reader)(uint32_t, uint32_t, uint32_t, const uint8_t *, size_t, uint8_t *, size_t);
+typedef uint64_t (*reader)(uint32_t, uint32_t, uint32_t, const uint8_t *, size_t, uint8_t *, size_t);
 typedef uint32_t (*writer)(uint32_t, uint32_t, uint32_t, uint32_t, uint32_t, uint32_t, uint32_t, uint32_t, const uint8_t *, size_t,
                            uint8_t *, size_t);
 
@@ -377,37 +377,70 @@ static void run_select_group(selector select, const struct group_case *c)
     expect("the answer for bad records", select(c->own, c->far, table, c->len), c->refusal == 1 ? 1 : 12);
 }
 
-/* Messages read at own 1, far 2. `text` is hexadecimal; the fields follow where it is taken. */
+/* Messages read at own 1, far 2. `text` is hexadecimal; then the refusal and its place, or the fields where it is taken. */
 static const struct read_case {
     const char *name, *text;
     uint32_t count;
     size_t out_len;
-    uint32_t refusal;
+    uint32_t refusal, place;
     uint8_t fields[TUP_MESSAGE_OCTETS];
 } read_cases[] = {
-    {"P10 read", "018000300046", 4, 23, 0, {3, 0, 0x46}},
-    {"beyond the group", "018000300046", 3, 23, 2, {0}},
-    {"a wrong length comes before 2", "01800030004600", 3, 23, 7, {0}},
-    {"five octets come before the label", "0280003000", 4, 23, 7, {0}},
-    {"wrong DPC", "028000300046", 4, 23, 8, {0}},
-    {"an unknown heading comes before the length", "01800030002100", 4, 23, 9, {0}},
-    {"ACM without its octet", "018000300014", 4, 23, 7, {0}},
-    {"ACM with all bits set", "018000300014ff", 4, 23, 0, {3, 0, 0x14, 63}},
-    {"IAM of eight octets", "0180003000110a03", 4, 23, 7, {0}},
-    {"IAM with no signals", "0180003000110a0300", 4, 23, 10, {0}},
-    {"no signals come before the length", "0180003000110a03001122", 4, 23, 10, {0}},
-    {"IAM too short for its count", "0180003000110a0310", 4, 23, 7, {0}},
-    {"IAM too long for its count", "0180003000110a03100102", 4, 23, 7, {0}},
-    {"a spare code comes before 2", "0180003000110a03100a", 3, 23, 10, {0}},
-    {"one signal, spare bits and filler set", "018000300011ca0318f1", 4, 23, 0, {3, 0, 0x11, 0, 10, 3, 0, 1, 1}},
-    {"a spare code as filler", "0180003000110a0310a1", 4, 23, 0, {3, 0, 0x11, 0, 10, 3, 0, 1, 1}},
-    {"ST alone", "0180003000110a03100f", 4, 23, 0, {3, 0, 0x11, 0, 10, 3, 0, 1, 15}},
-    {"ST before the end", "0180003000110a03201f", 4, 23, 10, {0}},
-    {"ST at the end", "0180003000110a0320f1", 4, 23, 0, {3, 0, 0x11, 0, 10, 3, 0, 2, 1, 15}},
-    {"15 signals", "0180003000110a03f0214365870921436f", 4, 23, 0,
+    {"P10 read", "018000300046", 4, 23, 0, 0, {3, 0, 0x46}},
+    {"beyond the group", "018000300046", 3, 23, 2, 3, {0}},
+    {"far beyond the group: CIC 4095", "018000f0ff46", 4, 23, 2, 3, {0}},
+    {"a wrong length comes before 2", "01800030004600", 3, 23, 7, 7, {0}},
+    {"no octets", "", 4, 23, 7, 0, {0}},
+    {"one octet", "01", 4, 23, 7, 1, {0}},
+    {"five octets come before the label", "0280003000", 4, 23, 7, 5, {0}},
+    {"wrong DPC", "028000300046", 4, 23, 8, 0, {0}},
+    {"wrong DPC in its upper six bits", "018100300046", 4, 23, 8, 0, {0}},
+    {"wrong DPC in its highest bit", "01a000300046", 4, 23, 8, 0, {0}},
+    {"wrong OPC", "014000300046", 4, 23, 8, 1, {0}},
+    {"wrong OPC in its middle bits", "018001300046", 4, 23, 8, 1, {0}},
+    {"wrong OPC in its highest bit", "018000380046", 4, 23, 8, 1, {0}},
+    {"wrong DPC and wrong OPC", "024000300046", 4, 23, 8, 0, {0}},
+    {"both wrong, DPC in its upper six bits", "014100300046", 4, 23, 8, 0, {0}},
+    {"a wrong label comes before the heading", "014000300021", 4, 23, 8, 1, {0}},
+    {"an unknown heading", "018000300021", 4, 23, 9, 5, {0}},
+    {"an unknown heading comes before the length", "01800030002100", 4, 23, 9, 5, {0}},
+    {"CLF of 18 octets", "018000300046000000000000000000000000", 4, 23, 7, 18, {0}},
+    {"ACM without its octet", "018000300014", 4, 23, 7, 6, {0}},
+    {"ACM with an octet more", "0180003000140000", 4, 23, 7, 8, {0}},
+    {"ACM with all bits set", "018000300014ff", 4, 23, 0, 0, {3, 0, 0x14, 63}},
+    {"IAM of six octets", "018000300011", 4, 23, 7, 6, {0}},
+    {"IAM of eight octets", "0180003000110a03", 4, 23, 7, 8, {0}},
+    {"IAM with no signals", "0180003000110a0300", 4, 23, 10, 8, {0}},
+    {"no signals come before the length", "0180003000110a03001122", 4, 23, 10, 8, {0}},
+    {"no signals, whatever the spare bit and the indicators", "0180003000110aff0f", 4, 23, 10, 8, {0}},
+    {"IAM too short for its count", "0180003000110a0310", 4, 23, 7, 9, {0}},
+    {"IAM too long for its count", "0180003000110a03100102", 4, 23, 7, 11, {0}},
+    {"a wrong length comes before a spare code", "0180003000110a0330aa", 4, 23, 7, 10, {0}},
+    {"a spare code comes before 2", "0180003000110a03100a", 3, 23, 10, 9, {0}},
+    {"one signal, spare bits and filler set", "018000300011ca0318f1", 4, 23, 0, 0, {3, 0, 0x11, 0, 10, 3, 0, 1, 1}},
+    {"a spare code as filler", "0180003000110a0310a1", 4, 23, 0, 0, {3, 0, 0x11, 0, 10, 3, 0, 1, 1}},
+    {"ST alone", "0180003000110a03100f", 4, 23, 0, 0, {3, 0, 0x11, 0, 10, 3, 0, 1, 15}},
+    {"ST before the end", "0180003000110a03201f", 4, 23, 10, 9, {0}},
+    {"ST before the end, its follower in the next octet", "0180003000110a0330f102", 4, 23, 10, 9, {0}},
+    {"ST before the end, in the second octet", "0180003000110a0340213f", 4, 23, 10, 10, {0}},
+    {"ST before ST", "0180003000110a0320ff", 4, 23, 10, 9, {0}},
+    {"ST behind which filler alone stands", "0180003000110a0330213f", 4, 23, 0, 0, {3, 0, 0x11, 0, 10, 3, 0, 3, 1, 2, 15}},
+    {"ST at the end", "0180003000110a0320f1", 4, 23, 0, 0, {3, 0, 0x11, 0, 10, 3, 0, 2, 1, 15}},
+    {"two bad signals: the first one's octet", "0180003000110a0340a12d", 4, 23, 10, 9, {0}},
+    {"two bad signals in one octet, behind a good one", "0180003000110a034021da", 4, 23, 10, 10, {0}},
+    {"an early ST, then a spare code", "0180003000110a0340f1e2", 4, 23, 10, 9, {0}},
+    {"a spare code, then an early ST", "0180003000110a0360d1f243", 4, 23, 10, 9, {0}},
+    {"15 signals", "0180003000110a03f0214365870921436f", 4, 23, 0, 0,
      {3, 0, 0x11, 0, 10, 3, 0, 15, 1, 2, 3, 4, 5, 6, 7, 8, 9, 0, 1, 2, 3, 4, 15}},
-    {"output too short", "018000300046", 4, 22, 11, {0}},
-    {"no output, and beyond the group", "018000300046", 3, 0, 2, {0}},
+    {"a spare code as the 15th signal", "0180003000110a03f0214365870921430a", 4, 23, 10, 16, {0}},
+    {"a spare code as the 14th signal", "0180003000110a03f0214365870921d301", 4, 23, 10, 15, {0}},
+    {"a spare code behind the 15th signal", "0180003000110a03f021436587092143e1", 4, 23, 0, 0,
+     {3, 0, 0x11, 0, 10, 3, 0, 15, 1, 2, 3, 4, 5, 6, 7, 8, 9, 0, 1, 2, 3, 4, 1}},
+    {"ST as the 14th of 15 signals", "0180003000110a03f0214365870921f301", 4, 23, 10, 15, {0}},
+    {"15 signals and an octet more", "0180003000110a03f0214365870921436f00", 4, 23, 7, 18, {0}},
+    {"15 signals and an octet less", "0180003000110a03f021436587092143", 4, 23, 7, 16, {0}},
+    {"output too short", "018000300046", 4, 22, 11, 0, {0}},
+    {"no output, and beyond the group", "018000300046", 3, 0, 2, 3, {0}},
+    {"no output, and a spare code", "0180003000110a0340213e", 4, 0, 10, 10, {0}},
 };
 
 static size_t from_text(const char *text, uint8_t *octets)
@@ -426,11 +459,28 @@ static void run_read_case(reader read, const struct read_case *c)
     pattern(out, sizeof out);
     pattern(kept, sizeof kept);
     size_t len = from_text(c->text, octets);
-    expect("the refusal", read(1, 2, c->count, octets, len, out, c->out_len), c->refusal);
+    uint64_t answer = read(1, 2, c->count, octets, len, out, c->out_len);
+    expect("the refusal", tup_read_refusal(answer), c->refusal);
+    expect("the place", tup_read_place(answer), c->place);
+    expect("the answer", answer, c->refusal + 256 * (uint64_t)c->place);
     if (c->refusal == 0)
         memcpy(kept, c->fields, TUP_MESSAGE_OCTETS);
     for (size_t i = 0; i < sizeof out; i++)
         expect("an octet of the output", out[i], kept[i]);
+}
+
+/* Refusal 1 is about the group, and names no octet: not even of a message in which everything is wrong. */
+static void run_read_groups(reader read)
+{
+    static const uint32_t groups[][3] = {{1, 1, 4}, {16384, 2, 4}, {1, 16384, 4}, {65537, 2, 4}, {1, 2, 0}, {1, 2, 4097}};
+    static const char *const texts[] = {"", "018000300046", "018000300021", "0180003000110a03100a"};
+    uint8_t octets[TUP_MESSAGE_MAX + 1], out[TUP_MESSAGE_OCTETS];
+    case_now = "a message read in no group";
+    for (size_t i = 0; i < sizeof groups / sizeof *groups; i++)
+        for (size_t k = 0; k < sizeof texts / sizeof *texts; k++) {
+            size_t len = from_text(texts[k], octets);
+            expect("the answer", read(groups[i][0], groups[i][1], groups[i][2], octets, len, out, sizeof out), 1);
+        }
 }
 
 /* Messages written in own 2, far 1. */
@@ -501,6 +551,7 @@ static void run_all(stepper step, selector select, reader read, writer write)
         run_select_group(select, group_cases + i);
     for (size_t i = 0; i < sizeof read_cases / sizeof *read_cases; i++)
         run_read_case(read, read_cases + i);
+    run_read_groups(read);
     for (size_t i = 0; i < sizeof write_cases / sizeof *write_cases; i++)
         run_write_case(write, write_cases + i);
 }

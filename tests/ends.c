@@ -36,8 +36,8 @@ enum foreign { JUNK, WRONG_CODES, TRUNCATED, UNKNOWN_HEADING, SPARE_DIGIT, ON_CI
 struct message {
     uint8_t octets[TUP_MESSAGE_MAX];
     size_t len;
-    uint32_t about;   /* its circuit; NONE for foreign octets that are refused */
-    uint32_t refusal; /* what the reader at the other end is to say */
+    uint32_t about;  /* its circuit; NONE for foreign octets that are refused */
+    uint64_t answer; /* what the reader at the other end is to answer */
 };
 
 /* The group as each end has it, and the table that it keeps there, of which no more is lent than its circuits; and what stood in
@@ -228,6 +228,11 @@ static uint8_t draw_unknown_heading(void)
     return heading;
 }
 
+static uint64_t refused_at(uint32_t refusal, size_t place)
+{
+    return refusal | (uint64_t)place << 8;
+}
+
 /* Any octets; not even by chance are they for the exchange with this code. */
 static void fill_with_junk(struct message *message, uint32_t code)
 {
@@ -235,7 +240,7 @@ static void fill_with_junk(struct message *message, uint32_t code)
     for (size_t i = 0; i < TUP_MESSAGE_MAX; i++)
         message->octets[i] = (uint8_t)draw(256);
     message->octets[0] = (uint8_t)(code + 1 + draw(255));
-    message->refusal = message->len <= LABEL ? TUP_WRONG_LENGTH : TUP_WRONG_LABEL;
+    message->answer = message->len <= LABEL ? refused_at(TUP_WRONG_LENGTH, message->len) : refused_at(TUP_WRONG_LABEL, 0);
 }
 
 /* Octets that neither end wrote, coming from this end's side. They may name any circuit; but where they can be read, they are about
@@ -252,19 +257,19 @@ static struct message foreign_message(unsigned from, enum foreign kind)
         fill_with_junk(&message, writer.far);
         break;
     case WRONG_CODES:
-        message.refusal = TUP_WRONG_LABEL;
+        message.answer = refused_at(TUP_WRONG_LABEL, writer.far == group[from].far ? 1 : 0);
         break;
     case TRUNCATED:
         message.len = draw((uint32_t)message.len);
-        message.refusal = TUP_WRONG_LENGTH;
+        message.answer = refused_at(TUP_WRONG_LENGTH, message.len);
         break;
     case UNKNOWN_HEADING:
         message.octets[LABEL] = draw_unknown_heading();
-        message.refusal = TUP_NO_SUCH_HEADING;
+        message.answer = refused_at(TUP_NO_SUCH_HEADING, LABEL);
         break;
     case SPARE_DIGIT:
         message.octets[LABEL + 4] = 0xAA;
-        message.refusal = TUP_WRONG_ADDRESS;
+        message.answer = refused_at(TUP_WRONG_ADDRESS, LABEL + 4);
         break;
     default:
         break;
@@ -289,7 +294,7 @@ static void send(unsigned end, uint32_t circuit, uint32_t heading, uint32_t deta
         return;
     struct message message = write_message(&group[end], circuit, heading, detail);
     if (circuit >= group[1 - end].circuits)
-        message.refusal = TUP_NO_SUCH_CIRCUIT;
+        message.answer = refused_at(TUP_NO_SUCH_CIRCUIT, 3);
     put(end, &message);
     calm[end][circuit] = 0;
     seen.headings[heading] += compared(circuit) != 0;
@@ -389,12 +394,13 @@ static void arrive(unsigned end)
     uint8_t fields[TUP_MESSAGE_OCTETS], before[sizeof table[0]];
     memcpy(before, table[end], sizeof before);
     now.end = end, now.circuit = message.about, now.kind = TUP_SIGNAL, now.code = message.octets[LABEL], now.detail = 0;
-    uint32_t refusal = tup_read(at->own, at->far, at->circuits, message.octets, message.len, fields, sizeof fields);
-    if (refusal != message.refusal)
-        differ("octets that arrive are refused %u and should be %u", refusal, message.refusal);
-    if (refusal != TUP_ACCEPTED) {
+    uint64_t answer = tup_read(at->own, at->far, at->circuits, message.octets, message.len, fields, sizeof fields);
+    if (answer != message.answer)
+        differ("octets that arrive are answered %llx and should be %llx", (unsigned long long)answer,
+               (unsigned long long)message.answer);
+    if (tup_read_refusal(answer) != TUP_ACCEPTED) {
         expect_all_kept(end, before);
-        seen.dropped[refusal]++;
+        seen.dropped[tup_read_refusal(answer)]++;
         return;
     }
     if (tup_message_circuit(fields) != message.about)

@@ -7,7 +7,7 @@
 #include <stdio.h>
 #include <string.h>
 
-#if TUP_VERSION < 40200 || TUP_VERSION_MAJOR != 4
+#if TUP_VERSION < 40300 || TUP_VERSION_MAJOR != 4
 #error "the version is compared at compile time"
 #endif
 #if TUP_TABLE_FORMAT != 2
@@ -164,8 +164,9 @@ static void codes_exchanged(void)
         uint32_t own = 2 - exchanged, far = 1 + exchanged;
         uint64_t answer = tup_step(own, far, table, TUP_TABLE_OCTETS(GROUP), 0, TUP_SIGNAL, TUP_IAM, 0);
         expect("the end that controls", tup_answer_state(answer), exchanged ? TUP_IN_SEIZED : TUP_OUT_SEIZED);
-        expect("a message", tup_read(own, far, GROUP, release_guard, sizeof release_guard, fields, sizeof fields),
-               exchanged ? TUP_WRONG_LABEL : TUP_ACCEPTED);
+        uint64_t read = tup_read(own, far, GROUP, release_guard, sizeof release_guard, fields, sizeof fields);
+        expect("a message", tup_read_refusal(read), exchanged ? TUP_WRONG_LABEL : TUP_ACCEPTED);
+        expect("its place", tup_read_place(read), 0);
     }
     put_record(0, TUP_OUT_SEIZED, 0);
     uint64_t other = tup_step(1, 2, table, TUP_TABLE_OCTETS(GROUP), 0, TUP_SIGNAL, TUP_IAM, 0);
@@ -208,9 +209,11 @@ static void enums_of_messages(void)
         int iam = headings[i] == TUP_IAM;
         size_t len = iam ? sizeof address : 0;
         uint32_t written = tup_write(2, 1, GROUP, 4, headings[i], 0, 0, 0, address, len, octets, sizeof octets);
-        uint32_t read = tup_read(1, 2, GROUP, octets, tup_written_length(written), fields, sizeof fields);
+        uint64_t read = tup_read(1, 2, GROUP, octets, tup_written_length(written), fields, sizeof fields);
+        uint64_t unread = tup_read(1, 2, 4, octets, tup_written_length(written), fields, sizeof fields);
         expect("writing", tup_refusal_of_written(written), TUP_ACCEPTED);
         expect("reading", tup_refusal_of_read(read), TUP_ACCEPTED);
+        expect("reading in a group without the circuit", tup_refusal_of_read(unread), TUP_NO_SUCH_CIRCUIT);
         expect("the heading", tup_heading_of_message(fields), headings[i]);
     }
     uint32_t unwritten = tup_write(2, 1, GROUP, 4, 0, 0, 0, 0, address, 0, octets, sizeof octets);
@@ -219,6 +222,20 @@ static void enums_of_messages(void)
     memset(table, 0, sizeof table);
     expect("a choice", tup_refusal_of_selected(tup_select(2, 1, table, TUP_TABLE_OCTETS(GROUP))), TUP_ACCEPTED);
     expect("no choice", tup_refusal_of_selected(tup_select(2, 1, table, 0)), TUP_NO_SUCH_GROUP);
+}
+
+/* The two parts of what tup_read answers: every refusal beside places of all sizes, and none takes a bit of the other. */
+static void parts_of_a_reading(void)
+{
+    static const uint64_t places[] = {0, 1, 8, 16, 255, 256, 65535, UINT32_MAX, UINT64_C(1) << 32, (UINT64_C(1) << 56) - 1};
+    for (uint32_t refusal = 0; refusal < 256; refusal++)
+        for (unsigned i = 0; i < sizeof places / sizeof *places; i++) {
+            uint64_t answer = refusal + 256 * places[i];
+            now.number = refusal;
+            expect("the refusal of a reading", tup_read_refusal(answer), refusal);
+            expect("the refusal as an enum", tup_refusal_of_read(answer), refusal);
+            expect("the place", tup_read_place(answer), places[i]);
+        }
 }
 
 /* Of the numbers below 300 and some above, exactly so many have a name, and no two the same. Which, is compared with docs/RULES.md
@@ -266,6 +283,7 @@ int main(void)
     left_out();
     enums();
     enums_of_messages();
+    parts_of_a_reading();
     names();
     return 0;
 }

@@ -180,6 +180,13 @@ static void tell(struct exchange *x, uint32_t circuit, uint32_t kind, uint32_t c
     state_before[end_of(x)][circuit] = tup_answer_state(answer);
 }
 
+/* What one end writes the other can read, and nothing else is on this link. */
+static void refuse(struct exchange *x, const uint8_t *octets, size_t len, uint64_t answer)
+{
+    (void)octets;
+    differ("end %u refuses a message of %zu octets: %llx", end_of(x), len, (unsigned long long)answer);
+}
+
 /* The rule on timers, and two that are none. */
 
 static uint32_t by_the_rule(uint32_t due, int quiet)
@@ -361,7 +368,7 @@ static void begin(const struct run *of, uint64_t seed)
         x->own = 2 - end, x->far = 1 + end;
         x->round_trip = 2 * run->slowest;
         x->seconds = 1000;
-        x->send = send, x->tell = tell;
+        x->send = send, x->tell = tell, x->refuse = refuse;
         x->may_run_out = run->broken == TIMERS_WAIT_NOT ? at_once
                          : run->broken == MINUTE_BESIDE_REPEAT ? all_that_was_due
                                                                : by_the_rule;

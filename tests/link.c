@@ -1,6 +1,7 @@
 /* tup_read and tup_write against the reference: every heading, length and count; every code in every place; every field beyond
-   its width; random and damaged messages; and both round trips. Messages and addresses are lent read-only, every slice lies at
-   the edge of an unreadable stretch, and every octet of an output and of what lies beside it is compared. */
+   its width; every octet of every format with every other value; random and damaged messages; and both round trips. The answer is
+   compared whole, of a refused message its place too. Messages and addresses are lent read-only, every slice lies at the edge of
+   an unreadable stretch, and every octet of an output and of what lies beside it is compared. */
 #include "harness.h"
 #include "reference.h"
 #include "tup.h"
@@ -22,6 +23,7 @@ static size_t len_now, out_len_now;
 static int reading;
 static struct room input, output;
 static unsigned long long reads, writes, read_well, written_well;
+static unsigned long long seen[256][LENGTHS]; /* how often a refusal was given with a place */
 
 static void print_octets(const char *name, const uint8_t *octets, size_t len)
 {
@@ -58,10 +60,10 @@ static void lend_output(struct outputs *outputs, enum place place, size_t out_le
     pattern(outputs->model, OUTPUT);
 }
 
-static void compare_output(const struct outputs *outputs, uint32_t got, uint32_t want)
+static void compare_output(const struct outputs *outputs, uint64_t got, uint64_t want)
 {
     if (got != want)
-        differ("the answer is %x and should be %x", got, want);
+        differ("the answer is %llx and should be %llx", (unsigned long long)got, (unsigned long long)want);
     for (int i = 0; i < OUTPUT; i++)
         if (outputs->stretch[i] != outputs->model[i])
             differ("octet %ld of the output is %02x and should be %02x", i - (long)(outputs->lent - outputs->stretch),
@@ -75,10 +77,17 @@ static const uint8_t *lend_input(enum place place, const uint8_t *octets, size_t
     return input.shut + room_at(place, len);
 }
 
-/* Reads at both ends of a room; the fields read are left in `fields`, which may be NULL. Gives the answer. */
-static uint32_t compare_read(const uint8_t *octets, size_t len, size_t out_len, uint8_t *fields)
+static void note_place(uint64_t answer)
 {
-    uint32_t want = 0;
+    if (tup_read_place(answer) >= LENGTHS)
+        differ("the place is %llu, in a message of at most %d octets", (unsigned long long)tup_read_place(answer), LENGTHS - 1);
+    seen[tup_read_refusal(answer)][tup_read_place(answer)]++;
+}
+
+/* Reads at both ends of a room; the fields read are left in `fields`, which may be NULL. Gives the answer. */
+static uint64_t compare_read(const uint8_t *octets, size_t len, size_t out_len, uint8_t *fields)
+{
+    uint64_t want = 0;
     reading = 1, len_now = len, out_len_now = out_len;
     memcpy(octets_now, octets, len);
     for (enum place place = AT_START; place < PLACES; place++) {
@@ -92,6 +101,7 @@ static uint32_t compare_read(const uint8_t *octets, size_t len, size_t out_len, 
         reads++;
         read_well += want == 0;
     }
+    note_place(want);
     return want;
 }
 
@@ -251,6 +261,98 @@ static void read_damaged(uint32_t times)
         group(m.far, m.own, chance(8) ? draw(4100) : m.count);
         compare_read(octets, len, TUP_MESSAGE_OCTETS + draw(3) - (chance(16) ? 1 : 0), NULL);
     }
+}
+
+/* Messages in good order on circuit 3 of four, one for each format: a plain one, an ACM, and IAMs with 1 to 15 address signals, as
+   digits to the end and with ST as the last. Gives the length; what lies behind it in `octets` are digits too, so that of a
+   message read too long it is the length alone that is wrong. */
+enum { FORMATS = 2 + 2 * TUP_ADDRESS_MAX };
+static size_t good_message(unsigned format, uint8_t *octets)
+{
+    struct message m = {.own = 2, .far = 1, .count = 4, .cic = 3, .heading = format == 0 ? TUP_CLF : format == 1 ? TUP_ACM : TUP_IAM};
+    if (m.heading == TUP_ACM)
+        m.acm = 5;
+    if (m.heading == TUP_IAM) {
+        m.category = 10, m.indicators = 0x203;
+        m.address_len = format / 2;
+        for (size_t i = 0; i < m.address_len; i++)
+            m.address[i] = (uint8_t)(1 + i % 9);
+        if (format % 2)
+            m.address[m.address_len - 1] = 15;
+    }
+    memset(octets, 0x21, LENGTHS);
+    return ref_write(m.own, m.far, m.count, m.cic, m.heading, m.acm, m.category, m.indicators, m.address, m.address_len, octets,
+                     LENGTHS) >> 8;
+}
+
+/* Every other value of every octet of every format; also into an output that is one octet short, which only a good message tells. */
+static void read_each_octet_damaged(void)
+{
+    group(1, 2, 4);
+    for (unsigned format = 0; format < FORMATS; format++) {
+        uint8_t octets[LENGTHS];
+        size_t len = good_message(format, octets);
+        if (compare_read(octets, len, TUP_MESSAGE_OCTETS, NULL) != 0)
+            differ("a good message is refused");
+        if (compare_read(octets, len, TUP_MESSAGE_OCTETS - 1, NULL) != TUP_OUTPUT_TOO_SHORT)
+            differ("an output too short is not refused 11 with place 0");
+        for (size_t at = 0; at < len; at++)
+            for (unsigned change = 1; change < 256; change++) {
+                octets[at] ^= (uint8_t)change;
+                compare_read(octets, len, TUP_MESSAGE_OCTETS, NULL);
+                compare_read(octets, len, TUP_MESSAGE_OCTETS - 1, NULL);
+                octets[at] ^= (uint8_t)change;
+            }
+    }
+}
+
+/* Every format cut or drawn out to every length, with all octets as they should be and with any one bit turned. */
+static void read_each_length(void)
+{
+    group(1, 2, 4);
+    for (unsigned format = 0; format < FORMATS; format++)
+        for (size_t len = 0; len < LENGTHS; len++) {
+            uint8_t octets[LENGTHS];
+            size_t right = good_message(format, octets);
+            uint64_t want = len == right ? 0 : TUP_WRONG_LENGTH | (uint64_t)len << 8;
+            if (compare_read(octets, len, TUP_MESSAGE_OCTETS, NULL) != want)
+                differ("of %zu octets where %zu are right not the length is told", len, right);
+            for (size_t bit = 0; bit < 8 * len; bit++) {
+                octets[bit / 8] ^= (uint8_t)(1u << bit % 8);
+                compare_read(octets, len, TUP_MESSAGE_OCTETS, NULL);
+                octets[bit / 8] ^= (uint8_t)(1u << bit % 8);
+            }
+        }
+}
+
+/* Which places a refusal can have, in messages of up to 20 octets. */
+static int place_there_is(uint32_t refusal, uint32_t place)
+{
+    switch (refusal) {
+    case TUP_ACCEPTED: case TUP_NO_SUCH_GROUP: case TUP_OUTPUT_TOO_SHORT:
+        return place == 0;
+    case TUP_NO_SUCH_CIRCUIT:
+        return place == 3;
+    case TUP_WRONG_LENGTH:
+        return 1;
+    case TUP_WRONG_LABEL:
+        return place <= 1;
+    case TUP_NO_SUCH_HEADING:
+        return place == 5;
+    case TUP_WRONG_ADDRESS:
+        return place >= 8 && place <= 16;
+    default:
+        return 0;
+    }
+}
+
+/* All of these have been given, and no others. */
+static void every_place_seen(void)
+{
+    for (uint32_t refusal = 0; refusal < 256; refusal++)
+        for (uint32_t place = 0; place < LENGTHS; place++)
+            if ((seen[refusal][place] > 0) != place_there_is(refusal, place))
+                differ("refusal %u with place %u was given %llu times", refusal, place, seen[refusal][place]);
 }
 
 /* Every heading and length of address, the other fields drawn near their bounds. */
@@ -413,8 +515,28 @@ static void vast_lengths(void)
         differ("an output of more than 4 GiB is not taken for a message read");
     if (tup_write(2, 1, 4, 3, TUP_CLF, 0, 0, 0, NULL, 0, vast, VAST + 1) != 6u << 8)
         differ("an output of more than 4 GiB is not taken for a message");
-    if (tup_read(1, 2, 4, vast, VAST + 6, out, sizeof out) != TUP_WRONG_LENGTH)
-        differ("a message of more than 4 GiB is not refused 7");
+    if (tup_read(1, 2, 4, vast, VAST + 6, out, sizeof out) != (TUP_WRONG_LENGTH | (uint64_t)(VAST + 6) << 8))
+        differ("a message of more than 4 GiB is not refused 7 with its length");
+}
+
+/* Lengths that no memory has. The reader looks at the first nine octets at most before it refuses them, so they may be lent. */
+static void lengths_beyond_places(void)
+{
+    static const uint64_t most = (UINT64_C(1) << 56) - 1;
+    static const uint64_t lengths[] = {most - 1, most, most + 1, most + 6, 2 * most, UINT64_MAX / 2};
+    static const uint8_t headings_told[] = {TUP_CLF, TUP_ACM, TUP_IAM};
+    uint8_t octets[9] = {0}, out[TUP_MESSAGE_OCTETS];
+    put_label(octets, 1, 2, 3);
+    octets[8] = 0xF0;
+    for (unsigned i = 0; i < sizeof lengths / sizeof *lengths; i++)
+        for (unsigned k = 0; k < sizeof headings_told; k++) {
+            uint64_t told = lengths[i] < most ? lengths[i] : most;
+            octets[5] = headings_told[k];
+            if (ref_read(1, 2, 4, octets, lengths[i], out, sizeof out) != (TUP_WRONG_LENGTH | told << 8))
+                differ("the reference does not tell a length of %llx", (unsigned long long)lengths[i]);
+            if (tup_read(1, 2, 4, octets, lengths[i], out, sizeof out) != (TUP_WRONG_LENGTH | told << 8))
+                differ("a length of %llx is not told", (unsigned long long)lengths[i]);
+        }
 }
 
 int main(int argc, char **argv)
@@ -427,6 +549,8 @@ int main(int argc, char **argv)
     read_every_shape();
     read_every_code();
     read_every_circuit();
+    read_each_octet_damaged();
+    read_each_length();
     read_wide_numbers();
     every_group();
     write_every_shape();
@@ -436,8 +560,10 @@ int main(int argc, char **argv)
     write_every_output();
     no_octets();
     vast_lengths();
+    lengths_beyond_places();
     read_damaged(times);
     round_trips(times);
+    every_place_seen();
     covered("%llu reads, %llu of them taken; %llu writes, %llu of them taken", reads, read_well, writes, written_well);
     return 0;
 }

@@ -1,7 +1,9 @@
 /* The rules once more, written from the project's documents 01 and 02 alone: events on a record, release ranks and the choice of a
-   circuit, messages on the link, the replay of a trace. docs/RULES.md has the same rules in words and tables. */
+   circuit, messages on the link, the replay of a trace, the reading of a file of messages. docs/RULES.md has the same rules in words
+   and tables. */
 #include "reference.h"
 
+#include <stdlib.h>
 #include <string.h>
 
 enum { POINT_CODES = 16384, CIRCUITS = 4096 };
@@ -455,7 +457,7 @@ uint64_t ref_select(uint32_t own, uint32_t far, const uint8_t *table, size_t tab
 
 /* Messages on the link. */
 
-enum { LABEL = 5, HEADING = 5, FIXED = 6, IAM_FIXED = 9, SIGNALS_MAX = 15, ST = 15 };
+enum { LABEL = 5, CIRCUIT = 3, HEADING = 5, FIXED = 6, COUNT = 8, IAM_FIXED = 9, SIGNALS_MAX = 15, ST = 15 };
 
 static size_t iam_length(size_t count)
 {
@@ -473,27 +475,47 @@ static int code_good(unsigned code, int last)
     return code <= 9 || code == 11 || code == 12 || (code == ST && last);
 }
 
+/* A message refused: the number in the lowest octet, and in the seven above it which octet of the message was wrong. */
+static uint64_t wrong_at(unsigned octet, unsigned number)
+{
+    return number | (uint64_t)octet << 8;
+}
+
+/* With a wrong length no octet is to blame. The length is told instead, as far as seven octets hold it. */
+static uint64_t wrong_length(uint64_t len)
+{
+    return len >> 56 == 0 ? 7 | len << 8 : ~(uint64_t)255 | 7;
+}
+
+/* Which end is wrong; 0 where both are right. A label with two wrong ends is told by the first of them. */
+static uint64_t label_refusal(uint64_t label, uint32_t own, uint32_t far)
+{
+    if (label % POINT_CODES != own)
+        return wrong_at(0, 8);
+    return (label >> 14) % POINT_CODES == far ? 0 : wrong_at(1, 8);
+}
+
 /* The refusal of an IAM by what stands behind its heading; 0 for none. */
-static uint32_t iam_refusal(const uint8_t *octets, size_t len)
+static uint64_t iam_refusal(const uint8_t *octets, size_t len)
 {
     if (len < IAM_FIXED)
-        return 7;
-    size_t count = octets[8] >> 4;
+        return wrong_length(len);
+    unsigned count = octets[COUNT] >> 4;
     if (count == 0)
-        return 10;
+        return wrong_at(COUNT, 10);
     if (len != iam_length(count))
-        return 7;
-    for (size_t i = 0; i < count; i++)
+        return wrong_length(len);
+    for (unsigned i = 0; i < count; i++)
         if (!code_good(nibble(octets, i), i + 1 == count))
-            return 10;
+            return wrong_at(IAM_FIXED + i / 2, 10);
     return 0;
 }
 
-static uint32_t body_refusal(const uint8_t *octets, size_t len)
+static uint64_t body_refusal(const uint8_t *octets, size_t len)
 {
     if (octets[HEADING] == IAM)
         return iam_refusal(octets, len);
-    return len == (octets[HEADING] == ACM ? FIXED + 1 : FIXED) ? 0 : 7;
+    return len == (octets[HEADING] == ACM ? FIXED + 1 : FIXED) ? 0 : wrong_length(len);
 }
 
 static void put_fields(const uint8_t *octets, uint32_t cic, uint8_t *out)
@@ -508,31 +530,30 @@ static void put_fields(const uint8_t *octets, uint32_t cic, uint8_t *out)
         return;
     out[4] = octets[6] & 0x3F;
     out[5] = octets[7];
-    out[6] = octets[8] & 0x07;
-    out[7] = octets[8] >> 4;
+    out[6] = octets[COUNT] & 0x07;
+    out[7] = octets[COUNT] >> 4;
     for (size_t i = 0; i < out[7]; i++)
         out[8 + i] = (uint8_t)nibble(octets, i);
 }
 
-uint32_t ref_read(uint32_t own, uint32_t far, uint32_t count, const uint8_t *octets, size_t len, uint8_t *out, size_t out_len)
+uint64_t ref_read(uint32_t own, uint32_t far, uint32_t count, const uint8_t *octets, size_t len, uint8_t *out, size_t out_len)
 {
     if (!group_good(own, far, count))
         return 1;
     if (len < FIXED)
-        return 7;
-    uint64_t label = 0;
+        return wrong_length(len);
+    uint64_t label = 0, refusal;
     for (int i = LABEL - 1; i >= 0; i--)
         label = label << 8 | octets[i];
-    if (label % POINT_CODES != own || (label >> 14) % POINT_CODES != far)
-        return 8;
+    if ((refusal = label_refusal(label, own, far)) != 0)
+        return refusal;
     if (!is_heading(octets[HEADING]))
-        return 9;
-    uint32_t refusal = body_refusal(octets, len);
-    if (refusal != 0)
+        return wrong_at(HEADING, 9);
+    if ((refusal = body_refusal(octets, len)) != 0)
         return refusal;
     uint32_t cic = (uint32_t)(label >> 28);
     if (cic >= count)
-        return 2;
+        return wrong_at(CIRCUIT, 2);
     if (out_len < REF_MESSAGE_OCTETS)
         return 11;
     put_fields(octets, cic, out);
@@ -678,13 +699,75 @@ static void replay_events(uint32_t own, uint32_t far, uint32_t count, const uint
     fprintf(out, "end %llu\n", (unsigned long long)(ordinal - 1));
 }
 
+/* The line of the group that a file begins with; 0 where it begins with no good one. */
+static int put_group(const uint8_t *file, size_t len, FILE *out)
+{
+    if (len < GROUP_OCTETS || file[0] != 0 || !group_good(two(file + 1), two(file + 3), two(file + 5))) {
+        fputs("bad group\n", out);
+        return 0;
+    }
+    fprintf(out, "own %u far %u circuits %u\n", two(file + 1), two(file + 3), two(file + 5));
+    return 1;
+}
+
 void ref_replay(const uint8_t *trace, size_t len, FILE *out)
 {
-    if (len < GROUP_OCTETS || trace[0] != 0 || !group_good(two(trace + 1), two(trace + 3), two(trace + 5))) {
-        fputs("bad group\n", out);
+    if (put_group(trace, len, out))
+        replay_events(two(trace + 1), two(trace + 3), two(trace + 5), trace + GROUP_OCTETS, len - GROUP_OCTETS, out);
+}
+
+/* A file of messages. */
+
+static void put_message_fields(const uint8_t *fields, FILE *out)
+{
+    fprintf(out, "%u %02x ", two(fields), fields[2]);
+    if (fields[2] == IAM) {
+        fprintf(out, "%u,%u,", fields[4], two(fields + 5));
+        for (unsigned i = 0; i < fields[7]; i++)
+            fprintf(out, "%x", fields[8 + i]);
+    } else if (fields[2] == ACM)
+        fprintf(out, "%u", fields[3]);
+    else
+        fputc('-', out);
+}
+
+void ref_messages(const uint8_t *file, size_t len, FILE *out)
+{
+    if (!put_group(file, len, out))
         return;
+    unsigned long long ordinal = 1;
+    size_t at = GROUP_OCTETS;
+    for (; at < len && len - at > file[at]; at += 1 + (size_t)file[at], ordinal++) {
+        uint8_t fields[REF_MESSAGE_OCTETS];
+        uint64_t answer = ref_read(two(file + 1), two(file + 3), two(file + 5), file + at + 1, file[at], fields, sizeof fields);
+        fprintf(out, "%llu %u %llu ", ordinal, (unsigned)(answer & 255), (unsigned long long)(answer >> 8));
+        if (answer == 0)
+            put_message_fields(fields, out);
+        else
+            fputs("- - -", out);
+        fputc('\n', out);
     }
-    uint32_t own = two(trace + 1), far = two(trace + 3), count = two(trace + 5);
-    fprintf(out, "own %u far %u circuits %u\n", own, far, count);
-    replay_events(own, far, count, trace + GROUP_OCTETS, len - GROUP_OCTETS, out);
+    if (at < len)
+        fprintf(out, "cut %llu\n", ordinal);
+    else
+        fprintf(out, "end %llu\n", ordinal - 1);
+}
+
+int ref_main(void (*print)(const uint8_t *file, size_t len, FILE *out))
+{
+    size_t len = 0, room = 1 << 20;
+    uint8_t *file = malloc(room);
+    while (file != NULL) {
+        size_t got = fread(file + len, 1, room - len, stdin);
+        if (got == 0)
+            break;
+        len += got;
+        if (len == room)
+            file = realloc(file, room *= 2);
+    }
+    if (file == NULL)
+        return 1;
+    print(file, len, stdout);
+    free(file);
+    return fflush(stdout) == 0 ? 0 : 1;
 }

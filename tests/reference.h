@@ -16,11 +16,17 @@
 uint64_t ref_step(uint32_t own, uint32_t far, uint8_t *table, size_t table_len, uint32_t cic, uint32_t kind, uint32_t code,
                   uint32_t detail);
 uint64_t ref_select(uint32_t own, uint32_t far, const uint8_t *table, size_t table_len);
-uint32_t ref_read(uint32_t own, uint32_t far, uint32_t count, const uint8_t *octets, size_t len, uint8_t *out, size_t out_len);
+uint64_t ref_read(uint32_t own, uint32_t far, uint32_t count, const uint8_t *octets, size_t len, uint8_t *out, size_t out_len);
 uint32_t ref_write(uint32_t own, uint32_t far, uint32_t count, uint32_t cic, uint32_t heading, uint32_t acm, uint32_t category,
                    uint32_t indicators, const uint8_t *address, size_t address_len, uint8_t *out, size_t out_len);
 
 /* Prints what the program `replay` prints for this trace. */
 void ref_replay(const uint8_t *trace, size_t len, FILE *out);
+
+/* Prints what the program `tup-messages` prints for this file of messages. */
+void ref_messages(const uint8_t *file, size_t len, FILE *out);
+
+/* Either of them as a program: a file on standard input, its text on standard output. Answers the status to end with. */
+int ref_main(void (*print)(const uint8_t *file, size_t len, FILE *out));
 
 #endif

@@ -1,7 +1,7 @@
 /* docs/RULES.md against the archive. The page's tables come in the plain form that tools/rules prints, in the file named as the
    argument. Every legal record, both roles, every listed event: the answer and the table must be what the rows say, and where no
    row applies, what the page says of that. No two rows may apply to one case, and each row must apply in each of its states. The
-   legal flags, the listed events and the names are compared as well. */
+   legal flags, the listed events, the names and the examples of messages refused are compared as well. */
 #include "harness.h"
 #include "tup.h"
 #include "tup_names.h"
@@ -45,6 +45,7 @@ static struct call {
     const struct row *row;
 } now;
 static unsigned long calls;
+static unsigned messages;
 
 static void describe(void)
 {
@@ -158,6 +159,30 @@ static void read_name(const char *line)
     strcpy(names[i][octet_of(number)], name);
 }
 
+static size_t octets_of(const char *text, uint8_t *octets)
+{
+    size_t len = 0;
+    unsigned octet;
+    for (; sscanf(text, "%2x", &octet) == 1; text += 2)
+        octets[len++] = (uint8_t)octet;
+    return len;
+}
+
+/* A message that the page shows is read as the page says, at the exchange with code 1 from the one with code 2. */
+static void read_message(const char *line)
+{
+    char text[WORD];
+    uint8_t octets[WORD], fields[TUP_MESSAGE_OCTETS];
+    unsigned at, circuits, refusal, place;
+    if (sscanf(line, "read %u %127s %u %u %u", &at, text, &circuits, &refusal, &place) != 5)
+        differ("no message in the plain form: %s", line);
+    uint64_t got = tup_read(1, 2, circuits, octets, octets_of(text, octets), fields, sizeof fields);
+    if (tup_read_refusal(got) != refusal || tup_read_place(got) != place)
+        differ("the message in line %u of the page has refusal %u and place %llu", at, tup_read_refusal(got),
+               (unsigned long long)tup_read_place(got));
+    messages++;
+}
+
 static void read_page(const char *path)
 {
     char line[1024];
@@ -171,6 +196,8 @@ static void read_page(const char *path)
             read_legal(line);
         else if (strncmp(line, "failures ", 9) == 0)
             read_failures(line);
+        else if (strncmp(line, "read ", 5) == 0)
+            read_message(line);
         else
             read_name(line);
     }
@@ -371,6 +398,8 @@ int main(int argc, char **argv)
     every_legal();
     every_event();
     every_name();
-    covered("the page's legal flags, events and names as well");
+    if (messages == 0)
+        differ("the page shows no message that is refused");
+    covered("the page's legal flags, events and names as well, and %u messages", messages);
     return 0;
 }

@@ -2,48 +2,13 @@
    cut at every place, and groups good and bad. The runner feeds them to the program `replay` and compares. */
 #include "harness.h"
 #include "reference.h"
+#include "saved.h"
 #include "tup.h"
 
-#include <stdio.h>
 #include <stdlib.h>
 #include <string.h>
 
-static const char *directory;
-static unsigned written;
 static unsigned long refusals[14], states[13];
-
-static FILE *create(const char *ending)
-{
-    char path[512];
-    snprintf(path, sizeof path, "%s/%04u.%s", directory, written, ending);
-    FILE *file = fopen(path, "wb");
-    if (file == NULL)
-        differ("%s cannot be written", path);
-    return file;
-}
-
-static void save(const uint8_t *trace, size_t len)
-{
-    FILE *file = create("trace");
-    if (fwrite(trace, 1, len, file) != len || fclose(file) != 0)
-        differ("a trace cannot be written");
-    file = create("text");
-    ref_replay(trace, len, file);
-    if (fclose(file) != 0)
-        differ("a text cannot be written");
-    written++;
-}
-
-static size_t put_group(uint8_t *at, uint32_t own, uint32_t far, uint32_t count)
-{
-    uint32_t fields[] = {own, far, count};
-    at[0] = 0;
-    for (int i = 0; i < 3; i++) {
-        at[1 + 2 * i] = (uint8_t)fields[i];
-        at[2 + 2 * i] = (uint8_t)(fields[i] >> 8);
-    }
-    return 7;
-}
 
 struct event {
     uint32_t cic, kind, code, detail;
@@ -110,10 +75,8 @@ static void save_random(size_t events, uint32_t own, uint32_t far, uint32_t circ
 
 static void save_groups(void)
 {
-    static const uint32_t groups[][3] = {{2, 1, 2}, {1, 2, 1}, {16383, 0, 4096}, {0, 16383, 4096}, {5, 5, 2}, {16384, 1, 2},
-                                         {1, 16384, 2}, {65535, 1, 2}, {2, 1, 0}, {2, 1, 4097}, {2, 1, 65535}, {0, 0, 0}};
     uint8_t trace[64];
-    for (unsigned i = 0; i < sizeof groups / sizeof *groups; i++) {
+    for (unsigned i = 0; i < GROUPS; i++) {
         size_t len = put_group(trace, groups[i][0], groups[i][1], groups[i][2]);
         save(trace, len);
         struct event last = {groups[i][2] - 1, TUP_SIGNAL, TUP_CLF, 0};
@@ -163,7 +126,7 @@ int main(int argc, char **argv)
     harness_begin("traces", NULL);
     if (argc != 2)
         differ("usage: traces DIRECTORY");
-    directory = argv[1];
+    save_into(argv[1], "trace", ref_replay);
     save_all();
     static const unsigned expected[] = {0, 2, 3, 4, 5, 6};
     for (unsigned i = 0; i < sizeof expected / sizeof *expected; i++)
@@ -173,6 +136,6 @@ int main(int argc, char **argv)
         if (states[i] == 0)
             differ("no event leaves state %u", i);
     unsigned long refused = refusals[2] + refusals[3] + refusals[4] + refusals[5] + refusals[6];
-    covered("%u traces, %lu random events in them, %lu of those refused", written, refusals[0] + refused, refused);
+    covered("%u traces, %lu random events in them, %lu of those refused", saved(), refusals[0] + refused, refused);
     return 0;
 }

@@ -3,7 +3,7 @@
 use mathlib.Core.Path.{_≡_, refl, sym, ap, _∙_, subst}
 use mathlib.Core.Bool.{Bool, true, false, cond}
 use mathlib.Core.List.{List, [], _∷_, _++_, append-nil}
-use Prim.Native.Nat.{ℕ, zero, suc, _^_, _<_, _≤_}
+use Prim.Native.Nat.{ℕ, _^_, _<_, _≤_}
 use native.Mathlib.Omega.{arith}
 use borrow.Author.Tests.{eq-eqb, ne-eqb, eqb-true, eqb-false, leb-false}
 use lib.Dec.{T, eqb, leb, le→leb, lit≤}
@@ -11,7 +11,7 @@ use lib.ListN.{length, replicate}
 use Rattle.circuit.specs.declared.Record.{Record}
 use Rattle.circuit.specs.declared.Signal.{Signal}
 use Rattle.circuit.specs.Groups.{controls}
-use Rattle.circuit.specs.Refusals.{firstOf, Clear}
+use Rattle.circuit.specs.Refusals.{Clear}
 use Rattle.circuit.proofs.Refusals.{clear}
 use Rattle.circuit.proofs.Every.{isTrue}
 use Rattle.codes.specs.declared.Named.{Named}
@@ -30,11 +30,11 @@ use Rattle.formats.specs.Messages.{formatOf, isAcm}
 use Rattle.formats.proofs.Format.{gotFits}
 use Rattle.formats.proofs.ByHeading.{acmMost}
 use Rattle.reader.specs.Places.{cicIn, headingIn, fieldBy}
-use Rattle.reader.specs.Reading.{readRules, fieldsIn, unless, fieldsOf}
+use Rattle.reader.specs.Reading.{readRules, fieldsOf}
+use Rattle.reader.proofs.Faults.{readRefusal, readFields}
 use Rattle.writer.specs.Writing.{badAddress}
-use Rattle.tup.specs.Entries.{fieldsOctets, Told}
+use Rattle.tup.specs.Entries.{fieldsOctets, packedRefusal, Told}
 use Rattle.tup.proofs.Entries.{refuses, fills}
-use Rattle.inverse.proofs.Refusals.{readRefusal}
 use Rattle.ends.specs.Machine.{acted, arrival, Happening.arrives, Happening.host}
 use Rattle.ends.specs.Ends.{end, inOrder, does}
 use Rattle.ends.proofs.Standing.{Holds, keeps}
@@ -59,7 +59,7 @@ module _ (own far watched : ℕ) (table : List ℕ) (m : Message) where
   abbrev f : Fields
   f = fieldsOf own far (recordsIn (length table)) m
 
-  byReading : (P : Told → Type 0) → ((f .refusal ≡ 0 → ⊥) → P (record { answer = f .refusal; buffer = replicate 23 0 }))
+  byReading : (P : Told → Type 0) → ((answer : ℕ) → (answer ≡ 0 → ⊥) → (f .refusal ≡ 0 → ⊥) → P (record { answer = answer; buffer = replicate 23 0 }))
       → (f .refusal ≡ 0 → P (record { answer = 0; buffer = over (fieldsOctets f) (replicate 23 0) })) → P (reads own far watched table m)
   byReading P other taken = go (eqb (f .refusal) 0) refl
     where
@@ -67,12 +67,13 @@ module _ (own far watched : ℕ) (table : List ℕ) (m : Message) where
       go true e = let z = eqb-true (f .refusal) 0 e in
           subst P (sym (fills own far (recordsIn (length table)) m (replicate 23 0) f refl z (lit≤ tt))) (taken z)
       go false e = let z = eqb-false (f .refusal) 0 e in
-          subst P (sym (refuses own far (recordsIn (length table)) m (replicate 23 0) f refl z)) (other z)
+          subst P (sym (refuses own far (recordsIn (length table)) m (replicate 23 0) f refl z)) (other (packedRefusal (f .refusal) (f .place)) (λ y. z (omega arith)) z)
 
   -- the fields of an accepted message are an event's numbers: the detail is an ACM's octet, or 0
   fitting : f .refusal ≡ 0 → detailFits (f .heading) (f .acm) ≡ true
-  unfolding fieldsOf
-  fitting = go (firstOf (readRules own far (recordsIn (length table)) m))
+  fitting e =
+      subst (λ (g : Fields). detailFits (g .heading) (g .acm) ≡ true) (sym (readFields own far (recordsIn (length table)) m (sym (readRefusal own far (recordsIn (length table)) m) ∙ e)))
+      (byAcm (isAcm (headingIn m)) refl most)
     where
       octet : ℕ
       octet = fieldBy (formatOf (headingIn m)) ACM m
@@ -83,11 +84,6 @@ module _ (own far watched : ℕ) (table : List ℕ) (m : Message) where
       byAcm : (b : Bool) → isAcm (headingIn m) ≡ b → octet ≤ cond b 63 0 → detailFits (headingIn m) octet ≡ true
       byAcm true e h = let l : octet ≤ 255 = omega arith in rw (isTrue (leb octet 255) (le→leb octet 255 l), e) refl
       byAcm false e h = let z : octet ≡ 0 = omega arith in rw (z, e) refl
-
-      go : (n : ℕ) → unless n (fieldsIn (headingIn m) m) .refusal ≡ 0
-          → detailFits (unless n (fieldsIn (headingIn m) m) .heading) (unless n (fieldsIn (headingIn m) m) .acm) ≡ true
-      go zero e = byAcm (isAcm (headingIn m)) refl most
-      go (suc n) e = absurd (omega arith)
 
 module _ (own far cic : ℕ) where
   -- the two ends, when a signal arrives that a message names, or none
@@ -110,8 +106,8 @@ module _ (own far cic : ℕ) where
     unheard : seenIn own far n cic m ≡ [] → Holds (controls own far cic) (end (recordAt table cic) (signals own far n cic rest)) (endAt far own cic y)
     unheard e = subst (λ (l : List Signal). Holds (controls own far cic) (end (recordAt table cic) (l ++ signals own far n cic rest)) (endAt far own cic y)) e (h .ends)
 
-    dropped : (F .refusal ≡ 0 → ⊥) → Arrived (record { answer = F .refusal; buffer = replicate 23 0 })
-    dropped z = rw (ne-eqb (F .refusal) 0 z) (record {
+    dropped : (answer : ℕ) → (answer ≡ 0 → ⊥) → (F .refusal ≡ 0 → ⊥) → Arrived (record { answer = answer; buffer = replicate 23 0 })
+    dropped answer y₀ z = rw (ne-eqb answer 0 y₀) (record {
       first = h .first;
       second = h .second;
       ends = subst (λ (l : List Message). Holds (controls own far cic) (end (recordAt table cic) (signals own far n cic rest)) (endAt far own cic (record { holds = y .holds; coming = l })))

@@ -1,9 +1,9 @@
 -- What an exchange sends: the writer takes every signal with good particulars, and the other end reads the octets as that signal on that circuit.
 -- Assumes nothing.
-use mathlib.Core.Path.{_≡_, refl, ap, _∙_}
+use mathlib.Core.Path.{_≡_, refl, sym, ap, _∙_}
 use mathlib.Core.Bool.{Bool, true, false, cond, not, _&&_}
 use mathlib.Core.List.{List, [], _∷_}
-use Prim.Native.Nat.{ℕ, zero, suc, _+_, _/_, _%_, _<_, _≤_}
+use Prim.Native.Nat.{ℕ, _+_, _/_, _%_, _<_, _≤_}
 use native.Mathlib.Omega.{arith}
 use borrow.Author.Tests.{le-ltb, eq-eqb}
 use lib.Dec.{T, eqb, leb, ltb, leb→le, lit≤}
@@ -22,8 +22,9 @@ use Rattle.codes.specs.Headings.{headingOf, signalOf}
 use Rattle.formats.specs.Octets.{aboveFifteen}
 use Rattle.formats.specs.Messages.{hasSignals, listed, half}
 use Rattle.reader.specs.declared.Fields.{Fields}
-use Rattle.reader.specs.Places.{cicIn, headingIn}
-use Rattle.reader.specs.Reading.{readRules, fieldsIn, unless, fieldsOf, reading}
+use Rattle.reader.specs.Places.{cicIn}
+use Rattle.reader.specs.Reading.{fieldsOf, reading}
+use Rattle.reader.proofs.Faults.{readRefusal, readFields}
 use Rattle.writer.specs.Writing.{Said, tooLarge, badAddress, octetsOf, writeRules}
 use Rattle.writer.proofs.Tests.{few}
 use Rattle.tup.specs.Entries.{writeFrom}
@@ -165,12 +166,7 @@ goesOutWhole own far count m buffer ok =
 
 -- a message that is accepted is of the circuit that its label names
 pub circuitRead : (own far count : ℕ) (xs : List ℕ) → fieldsOf own far count xs .refusal ≡ 0 → fieldsOf own far count xs .circuit .0 ≡ cicIn xs
-unfolding fieldsOf
-circuitRead own far count xs = go (firstOf (readRules own far count xs))
-  where
-    go : (n : ℕ) → unless n (fieldsIn (headingIn xs) xs) .refusal ≡ 0 → unless n (fieldsIn (headingIn xs) xs) .circuit .0 ≡ cicIn xs
-    go zero e = refl
-    go (suc n) e = absurd (omega arith)
+circuitRead own far count xs e = ap (λ (f : Fields). f .circuit .0) (readFields own far count xs (sym (readRefusal own far count xs) ∙ e))
 
 -- the signal that fields name, if they are accepted
 abbrev pub named : Named → List Signal

@@ -3,12 +3,12 @@
 use mathlib.Core.Path.{_≡_, refl, sym, ap, _∙_, subst}
 use mathlib.Core.Bool.{Bool, true, false, cond, not, _&&_}
 use mathlib.Core.List.{List, [], _∷_}
-use Prim.Native.Nat.{ℕ, _+_}
+use Prim.Native.Nat.{ℕ, _+_, _/_}
 use native.Mathlib.Omega.{arith}
 use borrow.Author.Tests.{eqb-true}
 use lib.Dec.{T, eqb}
 use Rattle.circuit.proofs.Every.{left, right, isTrue, alike, alikeSame}
-use Rattle.formats.specs.Format.{Name, Format, ACM, CATEGORY, INDICATORS, COUNT, octetsFor, most, once}
+use Rattle.formats.specs.Format.{Name, Format, ACM, CATEGORY, INDICATORS, COUNT, octetsFor, fieldOctet, signalOctet, most, once}
 use Rattle.formats.specs.Messages.{head, acmFormat, iamFormat, iamHeading, acmHeading, Own, noFields, ownFormats, amongOwn, headed, formatOf, signalsBehind, hasSignals, fixedLength, isIam, isAcm, half}
 
 -- ONE TEST OVER ALL OF THEM
@@ -84,6 +84,21 @@ module _ (h : ℕ) where
 -- so many address signals take up half as many octets, rounded up
 pub iamOctets : (n : ℕ) → octetsFor (headed iamFormat) n ≡ 9 + half n
 iamOctets n = omega arith
+
+-- and each lies in one of them
+pub signalOctets : (i : ℕ) → signalOctet (headed iamFormat) i ≡ 9 + i / 2
+signalOctets i = omega arith
+
+-- where address signals lie behind the fields, the count and each signal have their octets
+module _ (h : ℕ) (e : hasSignals h ≡ true) where
+  itsFormat : formatOf h ≡ headed iamFormat
+  itsFormat = ap headed (anIam h (sym (signalsOfIam h) ∙ e))
+
+  pub countOctet : fieldOctet (formatOf h .fields) COUNT ≡ 8
+  countOctet = ap (λ (f : Format). fieldOctet (f .fields) COUNT) itsFormat
+
+  pub signalOctetsOf : (i : ℕ) → signalOctet (formatOf h) i ≡ 9 + i / 2
+  signalOctetsOf i = ap (λ (f : Format). signalOctet f i) itsFormat ∙ signalOctets i
 
 -- how long a message is: 6 octets, an ACM 7, an IAM 9 and half its count of address signals rounded up
 pub octetsByHeading : (h n : ℕ) → octetsFor (formatOf h) n ≡ cond (isIam h) (9 + half n) (cond (isAcm h) 7 6)

@@ -16,6 +16,19 @@ use Rattle.words.specs.Octets.{lowFirst, numberOf}
 pub data Name : Type 0 where
   DPC OPC CIC HEADING ACM CATEGORY INDICATORS COUNT : Name
 
+abbrev pub index : Name → ℕ
+index DPC = 0
+index OPC = 1
+index CIC = 2
+index HEADING = 3
+index ACM = 4
+index CATEGORY = 5
+index INDICATORS = 6
+index COUNT = 7
+
+abbrev pub same : Name → Name → Bool
+same n m = eqb (index n) (index m)
+
 -- a field with its width in bits, or so many spare bits, which say nothing
 pub data Field : Type 0 where
   field : Name → (bits : ℕ) → Field
@@ -54,6 +67,22 @@ bits (spare w ∷ fs) = w + bits fs
 abbrev pub octetsFor : Format → (signals : ℕ) → ℕ
 octetsFor f n = (bits (f .fields) + each (f .behind) * n + 7) / 8
 
+-- WHERE IT LIES
+
+-- the bits before a field
+abbrev pub bitsBefore : List Field → Name → ℕ
+bitsBefore [] n = 0
+bitsBefore (field m w ∷ fs) n = cond (same m n) 0 (w + bitsBefore fs n)
+bitsBefore (spare w ∷ fs) n = w + bitsBefore fs n
+
+-- the octet in which a field begins, the first one being 0
+abbrev pub fieldOctet : List Field → Name → ℕ
+fieldOctet fs n = bitsBefore fs n / 8
+
+-- and the octet in which a signal behind the fields begins, the first one being 0
+abbrev pub signalOctet : Format → (signal : ℕ) → ℕ
+signalOctet f i = (bits (f .fields) + each (f .behind) * i) / 8
+
 -- THE OCTETS THAT A CONTENT GIVES
 
 -- the number that fields make, with what is above them; spare bits are 0
@@ -74,19 +103,6 @@ abbrev pub octetsFrom : Format → Content → List ℕ
 octetsFrom f c = lowFirst (octetsFor f (length (c .signals))) (numberFrom f c)
 
 -- THE CONTENT THAT OCTETS HAVE
-
-abbrev pub index : Name → ℕ
-index DPC = 0
-index OPC = 1
-index CIC = 2
-index HEADING = 3
-index ACM = 4
-index CATEGORY = 5
-index INDICATORS = 6
-index COUNT = 7
-
-abbrev pub same : Name → Name → Bool
-same n m = eqb (index n) (index m)
 
 -- the field with this name, 0 where there is none; spare bits are not looked at
 abbrev pub get : List Field → (number : ℕ) → Name → ℕ

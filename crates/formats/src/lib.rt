@@ -2,7 +2,7 @@
 // by its heading, and which address signals are refused.
 ghost use mathlib.Core.Path.{_≡_};
 ghost use mathlib.Core.Bool.{cond};
-ghost use Rattle.formats.specs.Octets.{badCode, badCodes};
+ghost use Rattle.formats.specs.Octets.{badCode, badCodes, firstBad};
 ghost use Rattle.formats.specs.Messages.{fixedLength, listed};
 ghost use Rattle.formats.specs.Way.{groupOf};
 
@@ -25,6 +25,17 @@ pub const PLAIN_OCTETS: usize = 6;
 pub const ACM_OCTETS: usize = 7;
 
 pub const IAM_OCTETS: usize = 9;
+
+// The octets in which the fields begin that a refusal may name, the first of the message being 0.
+pub const DPC_OCTET: u64 = 0;
+
+pub const OPC_OCTET: u64 = 1;
+
+pub const CIC_OCTET: u64 = 3;
+
+pub const HEADING_OCTET: u64 = 5;
+
+pub const COUNT_OCTET: u64 = 8;
 
 // The address signal that ends the address.
 const ST: u8 = 15;
@@ -85,16 +96,23 @@ fn bad_code(code: u8, more: bool) -> bool
     code == 14
 }
 
-// Whether some address signal is refused.
-pub fn bad_codes(address: &[u8]) -> bool
-    ensures { λ r. ⌜ r ≡ badCodes (now (address .entry)) ⌝ }
+// How many address signals stand before the first that is refused; all of them where none is.
+pub fn first_bad(address: &[u8]) -> usize
+    ensures { λ r. ⌜ r ≡ firstBad (now (address .entry)) ⌝ }
 {
     let mut i = 0;
     while i < address.len() {
         if bad_code(address[i], i + 1 < address.len()) {
-            return true;
+            return i;
         }
         i += 1;
     }
-    false
+    i
+}
+
+// Whether some address signal is refused.
+pub fn bad_codes(address: &[u8]) -> bool
+    ensures { λ r. ⌜ r ≡ badCodes (now (address .entry)) ⌝ }
+{
+    first_bad(address) < address.len()
 }

@@ -12,10 +12,14 @@ pub writtenHold : map (λ (c : Written). octetsOf 2 1 (c .says)) writtenCases �
 unfolding writtenCases octetsOf
 writtenHold = refl
 
--- Each of the octets that arrive is refused by its number or taken.
+-- Each of the octets that arrive is refused by its number, at its place, or taken.
 pub arrivedHold : map (λ (c : Arrived). fieldsOf 1 2 (c .records) (c .octets) .refusal) arrivedCases ≡ map (λ (c : Arrived). c .refusal) arrivedCases
 unfolding arrivedCases fieldsOf
 arrivedHold = refl
+
+pub placesHold : map (λ (c : Arrived). fieldsOf 1 2 (c .records) (c .octets) .place) arrivedCases ≡ map (λ (c : Arrived). c .place) arrivedCases
+unfolding arrivedCases fieldsOf
+placesHold = refl
 
 -- Each message is refused by its number or written.
 pub orderedHold : map (λ (c : Ordered). writing 2 1 1 (c .says) (replicate (c .room) 0) .answer .refusal) orderedCases ≡ map (λ (c : Ordered). c .refusal) orderedCases

@@ -20,7 +20,8 @@ use Rattle.formats.proofs.Format as format
 use Rattle.formats.proofs.ByHeading.{onceEach, countMost}
 use Rattle.formats.proofs.Lengths.{octet}
 use Rattle.reader.specs.Places.{cicIn, headingIn}
-use Rattle.reader.specs.Reading.{elsewhere, unfitBy, formatRules, bodyRules, readRules, fieldsFrom, fieldsIn, unless, fieldsOf}
+use Rattle.reader.specs.Reading.{elsewhere, unfitBy, formatRules, bodyRules, readRules, fieldsFrom, fieldsIn, fieldsOf}
+use Rattle.reader.proofs.Faults.{readFields}
 use Rattle.writer.specs.Writing.{Said, tooLarge, badAddress, contentSaid, octetsOf, writeRules}
 use Rattle.writer.proofs.Pairs.{at-most}
 use Rattle.writer.proofs.Tests.{fitting, fitting-address, in-order, few}
@@ -153,8 +154,7 @@ module _ (own far records : ℕ) (m : Said) (room : ℕ) (ok : firstOf (writeRul
 
     -- reading the octets of a message gives the message
     pub octetsRead : fieldsOf far own theirs xs ≡ fieldsSaid m
-    unfolding fieldsOf
     octetsRead =
-        ap (λ (n : ℕ). unless n (fieldsIn (headingIn xs) xs)) (noneGiven (readRules far own theirs xs) all-clear)
+        readFields far own theirs xs (noneGiven (readRules far own theirs xs) all-clear)
         ∙ ap (λ (h : ℕ). fieldsIn h xs) heading
         ∙ ap (fieldsFrom (m .heading)) there

@@ -1,54 +1,23 @@
 -- The answers of reader and writer are the first of their rules that holds, also through the entries for C.
 -- Assumes nothing.
-use mathlib.Core.Path.{_≡_, refl, sym, ap, _∙_}
+use mathlib.Core.Path.{_≡_, refl, sym, ap, ap₂, _∙_}
 use mathlib.Core.Bool.{Bool, true, false, cond}
 use mathlib.Core.List.{List, [], _∷_}
-use Prim.Native.Nat.{ℕ, zero, suc, _%_, _≤_}
+use mathlib.Core.Logic.{_↔_}
+use Prim.Native.Nat.{ℕ, zero, suc, _/_, _%_, _≤_, min}
 use native.Mathlib.Omega.{arith}
 use lib.Dec.{ltb, lit≤}
 use lib.ListN.{length}
-use Rattle.circuit.specs.Refusals.{refuse, Rule, firstOf}
-use Rattle.circuit.proofs.Refusals.{clear, beforeThem, afterThem}
-use Rattle.reader.specs.Places.{headingIn}
-use Rattle.reader.specs.Reading.{readRules, fieldsIn, unless, fieldsOf}
+use Rattle.circuit.specs.Refusals.{refuse, Rule, firstOf, Clear}
+use Rattle.circuit.proofs.Refusals.{clear, noneGiven, beforeThem, afterThem}
+use Rattle.reader.specs.declared.Fields.{Fields}
+use Rattle.reader.specs.Faults.{Fault, fault, placeOf}
+use Rattle.reader.specs.Reading.{readFaults, readRules, fieldsOf}
+use Rattle.reader.proofs.Faults.{readRefusal, readPlace, noPlace, placeBefore, placeAfter}
 use Rattle.writer.specs.Writing.{Said, octetsOf, writeRules, putting, writing}
-use Rattle.tup.specs.Entries.{fieldsOctets, Told, telling, readInto, writeFrom}
+use Rattle.tup.specs.Entries.{fieldsOctets, mostPlace, packedRefusal, Told, telling, readInto, writeFrom}
 use Rattle.words.specs.Octets.{over}
-use Rattle.inverse.specs.Host.{intoRules, Packs}
-
--- the reader's refusal is the first of its rules that holds
-pub readRefusal : (own far records : ℕ) (xs : List ℕ) → fieldsOf own far records xs .refusal ≡ firstOf (readRules own far records xs)
-unfolding fieldsOf
-readRefusal own far records xs = go (firstOf (readRules own far records xs))
-  where
-    go : (n : ℕ) → unless n (fieldsIn (headingIn xs) xs) .refusal ≡ n
-    go zero = refl
-    go (suc n) = refl
-
--- and so is the answer of the one that fills a lent buffer, whose own refusal, 11, is last of all
-pub intoRefusal : (own far count : ℕ) (xs buffer : List ℕ) → readInto own far count xs buffer .answer ≡ firstOf (intoRules own far count xs (length buffer))
-unfolding readInto
-intoRefusal own far count xs buffer = ap (λ (n : ℕ). telling n (fieldsOf own far count xs) buffer .answer) (readRefusal own far count xs) ∙ go (firstOf (readRules own far count xs)) refl
-  where
-    eleven : List Rule
-    eleven = refuse 11 (ltb (length buffer) 23) ∷ []
-
-    byRoom : (b : Bool) → cond {A = Told} b (record { answer = 11; buffer = buffer }) (record { answer = 0; buffer = over (fieldsOctets (fieldsOf own far count xs)) buffer }) .answer ≡ cond b 11 0
-    byRoom true = refl
-    byRoom false = refl
-
-    go : (n : ℕ) → firstOf (readRules own far count xs) ≡ n → telling n (fieldsOf own far count xs) buffer .answer ≡ firstOf (intoRules own far count xs (length buffer))
-    go zero e = byRoom (ltb (length buffer) 23) ∙ sym (afterThem (readRules own far count xs) eleven (clear (readRules own far count xs) tt e))
-    go (suc n) e = sym (beforeThem (readRules own far count xs) eleven n e)
-
--- the writer's refusal is the first of its rules that holds
-pub refusalOf : (n : ℕ) (xs buffer : List ℕ) → putting n xs buffer .answer .refusal ≡ n
-refusalOf zero xs buffer = refl
-refusalOf (suc n) xs buffer = refl
-
-pub writeRefusal : (own far records : ℕ) (m : Said) (buffer : List ℕ) → writing own far records m buffer .answer .refusal ≡ firstOf (writeRules own far records m (length buffer))
-unfolding writing
-writeRefusal own far records m buffer = refusalOf (firstOf (writeRules own far records m (length buffer))) (octetsOf own far m) buffer
+use Rattle.inverse.specs.Host.{intoFaults, intoRules, Packs}
 
 -- no number of a list is above k
 abbrev AtMost : ℕ → List Rule → Type 0
@@ -59,6 +28,59 @@ bounded : (k : ℕ) (rules : List Rule) → AtMost k rules → firstOf rules ≤
 bounded k [] h = omega arith
 bounded k (refuse n true ∷ rules) h = h .0
 bounded k (refuse n false ∷ rules) h = bounded k rules (h .1)
+
+-- The answer of the reader that fills a lent buffer is the first fault that is found, with its place; its own refusal, 11, is last of all.
+module _ (own far count : ℕ) (xs buffer : List ℕ) where
+  abbrev rules : List Rule
+  rules = readRules own far count xs
+
+  abbrev faults : List Fault
+  faults = readFaults own far count xs
+
+  abbrev short : Bool
+  short = ltb (length buffer) 23
+
+  abbrev f : Fields
+  f = fieldsOf own far count xs
+
+  pub intoAnswer : readInto own far count xs buffer .answer ≡ packedRefusal (firstOf (intoRules own far count xs (length buffer))) (placeOf (intoFaults own far count xs (length buffer)))
+  unfolding readInto
+  intoAnswer = ap (λ (n : ℕ). telling n f buffer .answer) (readRefusal own far count xs) ∙ go (firstOf rules) refl
+    where
+      byRoom : (b : Bool) → cond {A = Told} b (record { answer = 11; buffer = buffer }) (record { answer = 0; buffer = over (fieldsOctets f) buffer }) .answer ≡ packedRefusal (cond b 11 0) (cond b 0 0)
+      byRoom true = refl
+      byRoom false = refl
+
+      go : (n : ℕ) → firstOf rules ≡ n
+          → telling n f buffer .answer ≡ packedRefusal (firstOf (intoRules own far count xs (length buffer))) (placeOf (intoFaults own far count xs (length buffer)))
+      go zero e =
+          let c = clear rules tt e in
+          byRoom short ∙ ap₂ packedRefusal (sym (afterThem rules (refuse 11 short ∷ []) c)) (sym (placeAfter faults (fault 11 short 0 ∷ []) c))
+      go (suc n) e =
+          ap₂ packedRefusal (sym (beforeThem rules (refuse 11 short ∷ []) n e)) (readPlace own far count xs ∙ sym (placeBefore faults (fault 11 short 0 ∷ []) n e))
+
+  numbers : firstOf (intoRules own far count xs (length buffer)) ≤ 11
+  numbers = bounded 11 (intoRules own far count xs (length buffer)) (lit≤ tt, (lit≤ tt, (lit≤ tt, (lit≤ tt, (lit≤ tt, (lit≤ tt, (lit≤ tt, (lit≤ tt, (lit≤ tt, (lit≤ tt, tt))))))))))
+
+  -- the number gives refusal and place back
+  pub intoRefusal : readInto own far count xs buffer .answer % 256 ≡ firstOf (intoRules own far count xs (length buffer))
+  intoRefusal = let a = intoAnswer in let h = numbers in omega arith
+
+  pub intoPlace : readInto own far count xs buffer .answer / 256 ≡ min (placeOf (intoFaults own far count xs (length buffer))) mostPlace
+  intoPlace = let a = intoAnswer in let h = numbers in omega arith
+
+  -- nothing is refused exactly where nothing is found
+  pub intoTaken : (readInto own far count xs buffer .answer ≡ 0) ↔ Clear (intoRules own far count xs (length buffer))
+  intoTaken = (λ e. let r = intoRefusal in clear (intoRules own far count xs (length buffer)) tt (omega arith), λ c. intoAnswer ∙ ap₂ packedRefusal (noneGiven (intoRules own far count xs (length buffer)) c) (noPlace (intoFaults own far count xs (length buffer)) c))
+
+-- the writer's refusal is the first of its rules that holds
+pub refusalOf : (n : ℕ) (xs buffer : List ℕ) → putting n xs buffer .answer .refusal ≡ n
+refusalOf zero xs buffer = refl
+refusalOf (suc n) xs buffer = refl
+
+pub writeRefusal : (own far records : ℕ) (m : Said) (buffer : List ℕ) → writing own far records m buffer .answer .refusal ≡ firstOf (writeRules own far records m (length buffer))
+unfolding writing
+writeRefusal own far records m buffer = refusalOf (firstOf (writeRules own far records m (length buffer))) (octetsOf own far m) buffer
 
 pub writeNumber : (own far records : ℕ) (m : Said) (buffer : List ℕ) → writing own far records m buffer .answer .refusal ≤ 11
 writeNumber own far records m buffer =

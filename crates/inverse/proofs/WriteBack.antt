@@ -21,11 +21,11 @@ use Rattle.formats.proofs.ByHeading.{onceEach, countMost}
 use Rattle.words.specs.Octets.{numberOf}
 use Rattle.words.proofs.Octets.{length-lowFirst}
 use Rattle.reader.specs.Places.{dpcIn, opcIn, cicIn, headingIn, fieldBy}
-use Rattle.reader.specs.Reading.{bodyRules, readRules, noCodes, fieldsIn, unless, fieldsOf}
+use Rattle.reader.specs.Reading.{bodyRules, readRules, noCodes, fieldsIn, fieldsOf}
+use Rattle.reader.proofs.Faults.{readRefusal, readFields}
 use Rattle.writer.specs.Writing.{Said, said, tooLarge, badAddress, contentSaid, octetsOf, writeRules, putting, writing}
 use Rattle.inverse.specs.Octets.{cleared}
 use Rattle.inverse.specs.Said.{saidOf}
-use Rattle.inverse.proofs.Refusals.{readRefusal}
 
 both : (a b : Bool) → (not a || not b) ≡ false → (a ≡ true) × (b ≡ true)
 both true true e = (refl, refl)
@@ -48,8 +48,7 @@ module _ (own far records : ℕ) (xs : List ℕ) (ok : fieldsOf own far records 
   untouched = sym (readRefusal own far records xs) ∙ ok
 
   pub accepted : fieldsOf own far records xs ≡ fieldsIn (headingIn xs) xs
-  unfolding fieldsOf
-  accepted = ap (λ (n : ℕ). unless n (fieldsIn (headingIn xs) xs)) untouched
+  accepted = readFields own far records xs untouched
 
   tests : Clear (readRules own far records xs)
   tests = clear (readRules own far records xs) tt untouched

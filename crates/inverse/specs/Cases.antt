@@ -22,30 +22,38 @@ writtenCases =
     ∷ record { says = said 3 0x11 0 10 3 (1 ∷ 2 ∷ 15 ∷ []); octets = from3 (0x11 ∷ 0x0a ∷ 0x03 ∷ 0x30 ∷ 0x21 ∷ 0x0f ∷ []) }
     ∷ []
 
--- octets that the exchange 1 reads from the exchange 2 in a group of so many records, and the refusal, 0 for none
+-- octets that the exchange 1 reads from the exchange 2 in a group of so many records, the refusal, 0 for none, and its place
 pub record Arrived : Type 0 where
   pub records : ℕ
   pub octets : List ℕ
   pub refusal : ℕ
+  pub place : ℕ
 
 unfoldable pub arrivedCases : List Arrived
 arrivedCases =
-    record { records = 4; octets = from3 (0x46 ∷ []); refusal = 0 }
-    ∷ record { records = 3; octets = from3 (0x46 ∷ []); refusal = 2 }
-    ∷ record { records = 3; octets = from3 (0x46 ∷ 0x00 ∷ []); refusal = 7 }
-    ∷ record { records = 4; octets = 0x02 ∷ 0x80 ∷ 0x00 ∷ 0x30 ∷ 0x00 ∷ []; refusal = 7 }
-    ∷ record { records = 4; octets = 0x02 ∷ 0x80 ∷ 0x00 ∷ 0x30 ∷ 0x00 ∷ 0x46 ∷ []; refusal = 8 }
-    ∷ record { records = 4; octets = from3 (0x21 ∷ 0x00 ∷ []); refusal = 9 }
-    ∷ record { records = 4; octets = from3 (0x14 ∷ []); refusal = 7 }
-    ∷ record { records = 4; octets = from3 (0x14 ∷ 0xff ∷ []); refusal = 0 }
-    ∷ record { records = 4; octets = from3 (0x11 ∷ 0x0a ∷ 0x03 ∷ []); refusal = 7 }
-    ∷ record { records = 4; octets = from3 (0x11 ∷ 0x0a ∷ 0x03 ∷ 0x00 ∷ []); refusal = 10 }
-    ∷ record { records = 4; octets = from3 (0x11 ∷ 0x0a ∷ 0x03 ∷ 0x00 ∷ 0x11 ∷ 0x22 ∷ []); refusal = 10 }
-    ∷ record { records = 4; octets = from3 (0x11 ∷ 0x0a ∷ 0x03 ∷ 0x10 ∷ []); refusal = 7 }
-    ∷ record { records = 3; octets = from3 (0x11 ∷ 0x0a ∷ 0x03 ∷ 0x10 ∷ 0x0a ∷ []); refusal = 10 }
-    ∷ record { records = 4; octets = from3 (0x11 ∷ 0x0a ∷ 0x03 ∷ 0x10 ∷ 0x0f ∷ []); refusal = 0 }
-    ∷ record { records = 4; octets = from3 (0x11 ∷ 0x0a ∷ 0x03 ∷ 0x20 ∷ 0x1f ∷ []); refusal = 10 }
-    ∷ record { records = 4; octets = from3 (0x11 ∷ 0xca ∷ 0x03 ∷ 0x18 ∷ 0xa1 ∷ []); refusal = 0 }
+    record { records = 4; octets = from3 (0x46 ∷ []); refusal = 0; place = 0 }
+    ∷ record { records = 3; octets = from3 (0x46 ∷ []); refusal = 2; place = 3 }
+    ∷ record { records = 3; octets = from3 (0x46 ∷ 0x00 ∷ []); refusal = 7; place = 7 }
+    ∷ record { records = 4; octets = 0x02 ∷ 0x80 ∷ 0x00 ∷ 0x30 ∷ 0x00 ∷ []; refusal = 7; place = 5 }
+    ∷ record { records = 4; octets = 0x02 ∷ 0x80 ∷ 0x00 ∷ 0x30 ∷ 0x00 ∷ 0x46 ∷ []; refusal = 8; place = 0 }
+    ∷ record { records = 4; octets = from3 (0x21 ∷ 0x00 ∷ []); refusal = 9; place = 5 }
+    ∷ record { records = 4; octets = from3 (0x14 ∷ []); refusal = 7; place = 6 }
+    ∷ record { records = 4; octets = from3 (0x14 ∷ 0xff ∷ []); refusal = 0; place = 0 }
+    ∷ record { records = 4; octets = from3 (0x11 ∷ 0x0a ∷ 0x03 ∷ []); refusal = 7; place = 8 }
+    ∷ record { records = 4; octets = from3 (0x11 ∷ 0x0a ∷ 0x03 ∷ 0x00 ∷ []); refusal = 10; place = 8 }
+    ∷ record { records = 4; octets = from3 (0x11 ∷ 0x0a ∷ 0x03 ∷ 0x00 ∷ 0x11 ∷ 0x22 ∷ []); refusal = 10; place = 8 }
+    ∷ record { records = 4; octets = from3 (0x11 ∷ 0x0a ∷ 0x03 ∷ 0x10 ∷ []); refusal = 7; place = 9 }
+    ∷ record { records = 3; octets = from3 (0x11 ∷ 0x0a ∷ 0x03 ∷ 0x10 ∷ 0x0a ∷ []); refusal = 10; place = 9 }
+    ∷ record { records = 4; octets = from3 (0x11 ∷ 0x0a ∷ 0x03 ∷ 0x10 ∷ 0x0f ∷ []); refusal = 0; place = 0 }
+    ∷ record { records = 4; octets = from3 (0x11 ∷ 0x0a ∷ 0x03 ∷ 0x20 ∷ 0x1f ∷ []); refusal = 10; place = 9 }
+    ∷ record { records = 4; octets = from3 (0x11 ∷ 0xca ∷ 0x03 ∷ 0x18 ∷ 0xa1 ∷ []); refusal = 0; place = 0 }
+    ∷ record { records = 4; octets = 0x01 ∷ 0xc0 ∷ 0x00 ∷ 0x30 ∷ 0x00 ∷ 0x46 ∷ []; refusal = 8; place = 1 }
+    ∷ record { records = 4; octets = 0x01 ∷ 0x81 ∷ 0x00 ∷ 0x30 ∷ 0x00 ∷ 0x46 ∷ []; refusal = 8; place = 0 }
+    ∷ record { records = 4; octets = from3 (0x11 ∷ 0x0a ∷ 0x03 ∷ 0x30 ∷ 0xf1 ∷ 0x02 ∷ []); refusal = 10; place = 9 }
+    ∷ record { records = 4; octets = from3 (0x11 ∷ 0x0a ∷ 0x03 ∷ 0x40 ∷ 0x21 ∷ 0x3f ∷ []); refusal = 10; place = 10 }
+    ∷ record { records = 4; octets = from3 (0x11 ∷ 0x0a ∷ 0x03 ∷ 0x40 ∷ 0xa1 ∷ 0xda ∷ []); refusal = 10; place = 9 }
+    ∷ record { records = 4; octets = []; refusal = 7; place = 0 }
+    ∷ record { records = 4; octets = from3 (0x11 ∷ 0x0a ∷ 0x03 ∷ 0xf0 ∷ replicate 9 0x11); refusal = 7; place = 18 }
     ∷ []
 
 -- a message that the exchange 2 is to write to the exchange 1 into a buffer of so many octets, and the refusal

@@ -6,15 +6,19 @@ use mathlib.Core.List.{List, [], _∷_, _++_}
 use Prim.Native.Nat.{ℕ, _/_, _%_}
 use lib.Dec.{ltb}
 use lib.ListN.{length, getD, take, drop}
-use Rattle.circuit.specs.Refusals.{refuse, Rule}
+use Rattle.circuit.specs.Refusals.{Rule}
 use Rattle.words.specs.Octets.{numberOf}
 use Rattle.reader.specs.declared.Fields.{Fields}
-use Rattle.reader.specs.Reading.{readRules}
+use Rattle.reader.specs.Faults.{Fault, fault, rulesOf}
+use Rattle.reader.specs.Reading.{readFaults}
 use Rattle.writer.specs.declared.Written.{Written}
 
--- the refusals of the reader that fills a lent buffer, in order: those of the reader, and then a buffer under 23 octets
+-- what the reader that fills a lent buffer looks for, in order: what the reader does, and then a buffer under 23 octets
+abbrev pub intoFaults : (own far count : ℕ) → List ℕ → (room : ℕ) → List Fault
+intoFaults own far count xs room = readFaults own far count xs ++ (fault 11 (ltb room 23) 0 ∷ [])
+
 abbrev pub intoRules : (own far count : ℕ) → List ℕ → (room : ℕ) → List Rule
-intoRules own far count xs room = readRules own far count xs ++ (refuse 11 (ltb room 23) ∷ [])
+intoRules own far count xs room = rulesOf (intoFaults own far count xs room)
 
 -- a buffer holds a message's fields: a number of two octets has the lower one first
 pub record Holds (buffer : List ℕ) (f : Fields) : Type 0 where

@@ -13,6 +13,7 @@ use Rattle.writer.specs.Writing.{Said, said}
 abbrev pub fieldsSaid : Said → Fields
 fieldsSaid m = record {
   refusal = 0;
+  place = 0;
   circuit = record { 0 = m .cic };
   heading = m .heading;
   acm = m .acm;

@@ -3,11 +3,11 @@
 -- That there is an answer for all arguments is what the check of the program shows: no public function has a `requires`, and each ends. Here stands
 -- which refusal is given exactly when, and that it changes nothing. `firstOf` is the number of the first rule that holds, 0 for none.
 -- Assumes nothing.
-use mathlib.Core.Path.{_≡_, refl, ap, _∙_}
+use mathlib.Core.Path.{_≡_, refl, ap, _∙_, subst}
 use mathlib.Core.Bool.{Bool, true, false, cond, not, _&&_, _||_}
 use mathlib.Core.List.{List, [], _∷_, _++_}
 use mathlib.Core.Logic.{_↔_}
-use Prim.Native.Nat.{ℕ, suc, _+_, _/_, _%_, _<_, _≤_}
+use Prim.Native.Nat.{ℕ, suc, _+_, _/_, _%_, _<_, _≤_, min}
 use lib.Dec.{eqb, leb, ltb}
 use lib.ListN.{length, getD, take, drop, replicate}
 use borrow.Author.Tests.{le-leb, lt-leb, lt-ltb}
@@ -43,16 +43,18 @@ use Rattle.group.specs.Table.{stepIn}
 use Rattle.group.specs.Runs.{Follows, Follows.start, Follows.next}
 use Rattle.group.proofs.Laws as group
 use Rattle.group.proofs.Valid.{never12}
-use Rattle.formats.specs.Messages.{listed, isIam, isAcm, half}
-use Rattle.formats.specs.Octets.{badCodes}
-use Rattle.reader.specs.Places.{cicIn, headingIn, countIn, addressIn}
+use Rattle.formats.specs.Messages.{hasSignals, listed, isIam, isAcm, half}
+use Rattle.formats.specs.Octets.{badCodes, firstBad}
+use Rattle.reader.specs.Faults.{Fault, fault, rulesOf, placeOf}
+use Rattle.reader.specs.Places.{dpcIn, cicIn, headingIn, countIn, addressIn}
 use Rattle.reader.specs.Reading.{elsewhere, unfit, fieldsOf}
+use Rattle.reader.proofs.Faults.{bothHold, like}
 use Rattle.reader.proofs.Bodies.{unfitLength}
-use Rattle.formats.proofs.ByHeading.{signalsOfIam, countedLength}
+use Rattle.formats.proofs.ByHeading.{signalsOfIam, countedLength, countOctet, signalOctetsOf}
 use Rattle.writer.specs.Writing.{Said, tooLarge, badAddress, octetsOf, writeRules}
 use Rattle.tup.specs.Entries.{readInto, writeFrom}
-use Rattle.inverse.specs.Host.{intoRules}
-use Rattle.inverse.proofs.Refusals.{intoRefusal, fromRefusal}
+use Rattle.inverse.specs.Host.{intoFaults, intoRules}
+use Rattle.inverse.proofs.Refusals.{intoRefusal, intoPlace, intoTaken, fromRefusal}
 use Rattle.inverse.proofs.Host.{intoKept, fromKept, fromFilled, intoFilled}
 
 -- EVENTS
@@ -169,20 +171,24 @@ tableHolds = recordsBack
 -- A message is taken exactly where no rule holds (`Clear`).
 
 -- "Reader: 1; under 6 octets, 7; 8; 9; length not fitting the heading (IAM under 9), 7; IAM count zero, 10; IAM length not 9 plus half the count
--- rounded up, 7; codes, 10; then 2." Last 11, where the room is under 23 octets.
-abbrev readerRules : (own far count : ℕ) → (octets : List ℕ) → (room : ℕ) → List Rule
-readerRules own far count xs room =
-    refuse 1 (badGroup own far count)
-    ∷ refuse 7 (ltb (length xs) 6)
-    ∷ refuse 8 (elsewhere own far xs)
-    ∷ refuse 9 (not (listed (headingIn xs)))
-    ∷ refuse 7 (unfit (headingIn xs) (length xs))
-    ∷ refuse 10 (isIam (headingIn xs) && eqb (countIn xs) 0)
-    ∷ refuse 7 (isIam (headingIn xs) && not (eqb (length xs) (9 + half (countIn xs))))
-    ∷ refuse 10 (isIam (headingIn xs) && badCodes (addressIn xs))
-    ∷ refuse 2 (leb count (cicIn xs))
-    ∷ refuse 11 (ltb room 23)
+-- rounded up, 7; codes, 10; then 2." Last 11, where the room is under 23 octets. Each has its place: an octet, the first being 0; of a length the
+-- length itself.
+abbrev readerFaults : (own far count : ℕ) → (octets : List ℕ) → (room : ℕ) → List Fault
+readerFaults own far count xs room =
+    fault 1 (badGroup own far count) 0
+    ∷ fault 7 (ltb (length xs) 6) (length xs)
+    ∷ fault 8 (elsewhere own far xs) (cond (eqb (dpcIn xs) own) 1 0)
+    ∷ fault 9 (not (listed (headingIn xs))) 5
+    ∷ fault 7 (unfit (headingIn xs) (length xs)) (length xs)
+    ∷ fault 10 (isIam (headingIn xs) && eqb (countIn xs) 0) 8
+    ∷ fault 7 (isIam (headingIn xs) && not (eqb (length xs) (9 + half (countIn xs)))) (length xs)
+    ∷ fault 10 (isIam (headingIn xs) && badCodes (addressIn xs)) (9 + firstBad (addressIn xs) / 2)
+    ∷ fault 2 (leb count (cicIn xs)) 3
+    ∷ fault 11 (ltb room 23) 0
     ∷ []
+
+abbrev readerRules : (own far count : ℕ) → (octets : List ℕ) → (room : ℕ) → List Rule
+readerRules own far count xs room = rulesOf (readerFaults own far count xs room)
 
 -- a length that does not fit the heading: an IAM under 9 octets, an ACM not of 7, any other not of 6
 pub unfitIs : (heading len : ℕ) → unfit heading len ≡ cond (isIam heading) (ltb len 9) (not (eqb len (cond (isAcm heading) 7 6)))
@@ -199,15 +205,37 @@ readByLetter own far count xs room =
       (refl, refl, (refl, refl, (refl, refl, (refl, refl, (refl, ap (λ (b : Bool). b && eqb (countIn xs) 0) iam, (refl, countedLength h (length xs) (countIn xs), (refl, ap (λ (b : Bool). b && badCodes (addressIn xs)) iam, (refl, refl, (refl, refl, tt))))))))),
     )
 
-pub readRefused : (own far count : ℕ) (xs buffer : List ℕ) → readInto own far count xs buffer .answer ≡ firstOf (readerRules own far count xs (length buffer))
+placesByLetter : (own far count : ℕ) (xs : List ℕ) (room : ℕ) → placeOf (intoFaults own far count xs room) ≡ placeOf (readerFaults own far count xs room)
+placesByLetter own far count xs room =
+    let h = headingIn xs in
+    let iam = signalsOfIam h in
+    like (intoFaults own far count xs room) (readerFaults own far count xs room) (
+      refl,
+      (λ e. refl),
+      (refl, (λ e. refl), (refl, (λ e. refl), (refl, (λ e. refl), (refl, (λ e. refl), (
+        ap (λ (b : Bool). b && eqb (countIn xs) 0) iam,
+        (λ e. countOctet h (bothHold (hasSignals h) e .0)),
+        (countedLength h (length xs) (countIn xs), (λ e. refl), (
+          ap (λ (b : Bool). b && badCodes (addressIn xs)) iam,
+          (λ e. signalOctetsOf h (bothHold (hasSignals h) e .0) (firstBad (addressIn xs))),
+          (refl, (λ e. refl), (refl, (λ e. refl), tt)),
+        )),
+      ))))),
+    )
+
+-- the number that is answered is the refusal and 256 times its place, at most 2^56 - 1
+pub readRefused : (own far count : ℕ) (xs buffer : List ℕ) → readInto own far count xs buffer .answer % 256 ≡ firstOf (readerRules own far count xs (length buffer))
 readRefused own far count xs buffer = intoRefusal own far count xs buffer ∙ ap firstOf (readByLetter own far count xs (length buffer))
 
+pub readPlaced : (own far count : ℕ) (xs buffer : List ℕ) → readInto own far count xs buffer .answer / 256 ≡ min (placeOf (readerFaults own far count xs (length buffer))) 0xffffffffffffff
+readPlaced own far count xs buffer = intoPlace own far count xs buffer ∙ ap (λ (place : ℕ). min place 0xffffffffffffff) (placesByLetter own far count xs (length buffer))
+
 pub readGiven : (own far count : ℕ) (xs buffer : List ℕ) (n : ℕ)
-    → (readInto own far count xs buffer .answer ≡ suc n) ↔ Given (suc n) (readerRules own far count xs (length buffer))
-readGiven own far count xs buffer = answered (readerRules own far count xs (length buffer)) (readInto own far count xs buffer .answer) (readRefused own far count xs buffer)
+    → (readInto own far count xs buffer .answer % 256 ≡ suc n) ↔ Given (suc n) (readerRules own far count xs (length buffer))
+readGiven own far count xs buffer = answered (readerRules own far count xs (length buffer)) (readInto own far count xs buffer .answer % 256) (readRefused own far count xs buffer)
 
 pub readTaken : (own far count : ℕ) (xs buffer : List ℕ) → (readInto own far count xs buffer .answer ≡ 0) ↔ Clear (readerRules own far count xs (length buffer))
-readTaken own far count xs buffer = accepted (readerRules own far count xs (length buffer)) (readInto own far count xs buffer .answer) (readRefused own far count xs buffer) tt
+readTaken own far count xs buffer = subst (λ (rules : List Rule). (readInto own far count xs buffer .answer ≡ 0) ↔ Clear rules) (readByLetter own far count xs (length buffer)) (intoTaken own far count xs buffer)
 
 -- the order for the writer: 1, 2, 9, 3, 10, 11
 abbrev writerRules : (own far count : ℕ) → Said → (room : ℕ) → List Rule

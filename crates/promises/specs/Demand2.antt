@@ -49,7 +49,7 @@ use Rattle.inverse.specs.Host.{Holds}
 use Rattle.inverse.proofs.Host.{carried}
 use Rattle.inverse.proofs.Laws as messages
 use Rattle.inverse.specs.Cases.{Written, Arrived, Ordered as ToWrite, writtenCases, arrivedCases, orderedCases}
-use Rattle.inverse.proofs.Cases.{writtenHold, arrivedHold, orderedHold}
+use Rattle.inverse.proofs.Cases.{writtenHold, arrivedHold, placesHold, orderedHold}
 use Rattle.text.specs.Numbers.{decimal, valueFrom}
 use Rattle.text.specs.Lines.{endLine, cutLine, badGroupLine}
 use Rattle.text.proofs.Numbers.{decimalValue, decimalFirst}
@@ -269,9 +269,15 @@ pub messagesWritten : map (λ (c : Written). octetsOf 2 1 (c .says)) writtenCase
 unfolding writtenCases
 messagesWritten = writtenHold
 
-pub messagesRead : map (λ (c : Arrived). fieldsOf 1 2 (c .records) (c .octets) .refusal) arrivedCases ≡ 0 ∷ 2 ∷ 7 ∷ 7 ∷ 8 ∷ 9 ∷ 7 ∷ 0 ∷ 7 ∷ 10 ∷ 10 ∷ 7 ∷ 10 ∷ 0 ∷ 10 ∷ 0 ∷ []
+pub messagesRead : map (λ (c : Arrived). fieldsOf 1 2 (c .records) (c .octets) .refusal) arrivedCases
+    ≡ 0 ∷ 2 ∷ 7 ∷ 7 ∷ 8 ∷ 9 ∷ 7 ∷ 0 ∷ 7 ∷ 10 ∷ 10 ∷ 7 ∷ 10 ∷ 0 ∷ 10 ∷ 0 ∷ 8 ∷ 8 ∷ 10 ∷ 10 ∷ 10 ∷ 7 ∷ 7 ∷ []
 unfolding arrivedCases
 messagesRead = arrivedHold
+
+pub theirPlaces : map (λ (c : Arrived). fieldsOf 1 2 (c .records) (c .octets) .place) arrivedCases
+    ≡ 0 ∷ 3 ∷ 7 ∷ 5 ∷ 0 ∷ 5 ∷ 6 ∷ 0 ∷ 8 ∷ 8 ∷ 8 ∷ 9 ∷ 9 ∷ 0 ∷ 9 ∷ 0 ∷ 1 ∷ 0 ∷ 9 ∷ 10 ∷ 9 ∷ 0 ∷ 18 ∷ []
+unfolding arrivedCases
+theirPlaces = placesHold
 
 pub messagesRefused : map (λ (c : ToWrite). writing 2 1 1 (c .says) (replicate (c .room) 0) .answer .refusal) orderedCases ≡ 0 ∷ 2 ∷ 2 ∷ 9 ∷ 3 ∷ 3 ∷ 3 ∷ 3 ∷ 3 ∷ 10 ∷ 10 ∷ 10 ∷ 0 ∷ 11 ∷ []
 unfolding orderedCases

@@ -1,6 +1,7 @@
 pub mod Demand1
 pub mod Demand2
 pub mod Formats
+pub mod Places
 pub mod Demand3
 pub mod Demand3Link
 pub mod Restarts

@@ -1,6 +1,6 @@
 -- The cases of the reader: what is answered where each test stands.
 -- Assumes nothing.
-use mathlib.Core.Path.{_≡_, refl, sym, ap, _∙_}
+use mathlib.Core.Path.{_≡_, refl, sym, ap, ap₂, _∙_}
 use mathlib.Core.Bool.{Bool, true, false, cond, not, _&&_, _||_}
 use mathlib.Core.List.{List, [], _∷_}
 use Prim.Native.Nat.{ℕ, _+_, _*_, _/_, _%_, _^_, _<_, _≤_}
@@ -12,44 +12,45 @@ use lib.Seq.{length-take-le, take-at, getD-drop}
 use Rattle.circuit.specs.Groups.{badGroup}
 use Rattle.circuit.specs.declared.Cic.{Cic}
 use Rattle.reader.specs.declared.Fields.{Fields}
-use Rattle.circuit.specs.Refusals.{refuse, firstOf}
-use Rattle.formats.specs.Format.{Format, octetsFor, CATEGORY, INDICATORS, COUNT, above, getEach, contentIn}
+use Rattle.formats.specs.Format.{Format, octetsFor, fieldOctet, signalOctet, CATEGORY, INDICATORS, COUNT, above, getEach, contentIn}
 use Rattle.formats.specs.Messages.{iamFormat, amongOwn, ownFormats, headed, formatOf, hasSignals, fixedLength, listed, isIam, isAcm, half}
-use Rattle.formats.specs.Octets.{badCodes}
+use Rattle.formats.specs.Octets.{badCode, badCodes, firstBad}
 use Rattle.formats.specs.Way.{halves}
-use Rattle.formats.proofs.ByHeading.{anAcm, neither, signalsOfIam, iamOctets, fixedLengths}
+use Rattle.formats.proofs.ByHeading.{anAcm, neither, signalsOfIam, iamOctets, signalOctets, fixedLengths}
 use Rattle.formats.proofs.Places.{dpcThere, opcThere, cicThere, headingThere, acmThere, categoryThere, indicatorsThere, countThere, behindIam, signalsThere}
+use Rattle.formats.proofs.Signals.{someBefore}
 use Rattle.formats.proofs.Lengths.{no-length, a-length, the-length}
 use Rattle.words.specs.Octets.{numberOf, over}
+use Rattle.reader.specs.Faults.{fault}
 use Rattle.reader.specs.Places.{cicIn, headingIn, fieldBy, signalsBy}
-use Rattle.reader.specs.Reading.{elsewhere, unfit, bodyRules, noCodes, refused, fieldsFrom, fieldsIn, unless, fieldsOf}
+use Rattle.reader.specs.Reading.{elsewhere, unfit, strayOctet, bodyFaults, noCodes, refused, fieldsFrom, fieldsIn, judged, fieldsOf}
 use Rattle.reader.specs.Way.{bodyOf, plainFields}
 use Rattle.reader.proofs.Signals.{length-halves}
 
--- the answer by the reader's last six tests
-abbrev judged : Fields → Bool → Bool → Bool → Bool → Bool → Bool → Fields
-judged f b₀ b₁ b₂ b₃ b₄ b₅ = unless (firstOf (refuse 9 b₀ ∷ refuse 7 b₁ ∷ refuse 10 b₂ ∷ refuse 7 b₃ ∷ refuse 10 b₄ ∷ refuse 2 b₅ ∷ [])) f
+-- the reader's last six tests, and the places that are not the same for every message
+module _ (f : Fields) (len counts spoils : ℕ) (b₀ b₁ b₂ b₃ b₄ b₅ : Bool) where
+  abbrev tested : Fields
+  tested = judged (fault 9 b₀ 5 ∷ fault 7 b₁ len ∷ fault 10 b₂ counts ∷ fault 7 b₃ len ∷ fault 10 b₄ spoils ∷ fault 2 b₅ 3 ∷ []) f
 
-module _ (f : Fields) (b₀ b₁ b₂ b₃ b₄ b₅ : Bool) where
-  at0 : b₀ ≡ true → judged f b₀ b₁ b₂ b₃ b₄ b₅ ≡ refused 9
+  at0 : b₀ ≡ true → tested ≡ refused 9 5
   at0 e = rw e
 
-  at1 : b₀ ≡ false → b₁ ≡ true → judged f b₀ b₁ b₂ b₃ b₄ b₅ ≡ refused 7
+  at1 : b₀ ≡ false → b₁ ≡ true → tested ≡ refused 7 len
   at1 e₀ e = rw (e₀, e)
 
-  at2 : b₀ ≡ false → b₁ ≡ false → b₂ ≡ true → judged f b₀ b₁ b₂ b₃ b₄ b₅ ≡ refused 10
+  at2 : b₀ ≡ false → b₁ ≡ false → b₂ ≡ true → tested ≡ refused 10 counts
   at2 e₀ e₁ e = rw (e₀, e₁, e)
 
-  at3 : b₀ ≡ false → b₁ ≡ false → b₂ ≡ false → b₃ ≡ true → judged f b₀ b₁ b₂ b₃ b₄ b₅ ≡ refused 7
+  at3 : b₀ ≡ false → b₁ ≡ false → b₂ ≡ false → b₃ ≡ true → tested ≡ refused 7 len
   at3 e₀ e₁ e₂ e = rw (e₀, e₁, e₂, e)
 
-  at4 : b₀ ≡ false → b₁ ≡ false → b₂ ≡ false → b₃ ≡ false → b₄ ≡ true → judged f b₀ b₁ b₂ b₃ b₄ b₅ ≡ refused 10
+  at4 : b₀ ≡ false → b₁ ≡ false → b₂ ≡ false → b₃ ≡ false → b₄ ≡ true → tested ≡ refused 10 spoils
   at4 e₀ e₁ e₂ e₃ e = rw (e₀, e₁, e₂, e₃, e)
 
-  at5 : b₀ ≡ false → b₁ ≡ false → b₂ ≡ false → b₃ ≡ false → b₄ ≡ false → b₅ ≡ true → judged f b₀ b₁ b₂ b₃ b₄ b₅ ≡ refused 2
+  at5 : b₀ ≡ false → b₁ ≡ false → b₂ ≡ false → b₃ ≡ false → b₄ ≡ false → b₅ ≡ true → tested ≡ refused 2 3
   at5 e₀ e₁ e₂ e₃ e₄ e = rw (e₀, e₁, e₂, e₃, e₄, e)
 
-  at6 : b₀ ≡ false → b₁ ≡ false → b₂ ≡ false → b₃ ≡ false → b₄ ≡ false → b₅ ≡ false → judged f b₀ b₁ b₂ b₃ b₄ b₅ ≡ f
+  at6 : b₀ ≡ false → b₁ ≡ false → b₂ ≡ false → b₃ ≡ false → b₄ ≡ false → b₅ ≡ false → tested ≡ f
   at6 e₀ e₁ e₂ e₃ e₄ e = rw (e₀, e₁, e₂, e₃, e₄, e)
 
 -- a length that does not fit the heading, by the letter
@@ -72,6 +73,12 @@ module _ (records h : ℕ) (xs : List ℕ) (other : isIam h ≡ false) where
   fit : unfit h (length xs) ≡ not (eqb (length xs) (fixedLength h))
   fit = ap (λ (t : Bool). cond t (ltb (length xs) (fixedLength h)) (not (eqb (length xs) (fixedLength h)))) alone
 
+  abbrev c₂ : ℕ
+  c₂ = fieldOctet (formatOf h .fields) COUNT
+
+  abbrev c₄ : ℕ
+  c₄ = signalOctet (formatOf h) (firstBad (signalsBy (formatOf h) xs))
+
   abbrev o₂ : Bool
   o₂ = hasSignals h && eqb (fieldBy (formatOf h) COUNT xs) 0
 
@@ -81,40 +88,40 @@ module _ (records h : ℕ) (xs : List ℕ) (other : isIam h ≡ false) where
   abbrev o₄ : Bool
   o₄ = hasSignals h && badCodes (signalsBy (formatOf h) xs)
 
-  unlisted : listed h ≡ false → bodyOf records h xs ≡ refused 9
+  unlisted : listed h ≡ false → bodyOf records h xs ≡ refused 9 5
   unfolding bodyOf
-  unlisted e = at0 (fieldsIn h xs) (not (listed h)) (unfit h (length xs)) o₂ o₃ o₄ (leb records (cicIn xs)) (ap not e)
+  unlisted e = at0 (fieldsIn h xs) (length xs) c₂ c₄ (not (listed h)) (unfit h (length xs)) o₂ o₃ o₄ (leb records (cicIn xs)) (ap not e)
 
-  long : listed h ≡ true → (length xs ≡ fixedLength h → ⊥) → bodyOf records h xs ≡ refused 7
+  long : listed h ≡ true → (length xs ≡ fixedLength h → ⊥) → bodyOf records h xs ≡ refused 7 (length xs)
   unfolding bodyOf
-  long e n = at1 (fieldsIn h xs) (not (listed h)) (unfit h (length xs)) o₂ o₃ o₄ (leb records (cicIn xs)) (ap not e) (fit ∙ ap not (ne-eqb _ _ n))
+  long e n = at1 (fieldsIn h xs) (length xs) c₂ c₄ (not (listed h)) (unfit h (length xs)) o₂ o₃ o₄ (leb records (cicIn xs)) (ap not e) (fit ∙ ap not (ne-eqb _ _ n))
 
-  beyond : listed h ≡ true → length xs ≡ fixedLength h → records ≤ cicIn xs → bodyOf records h xs ≡ refused 2
+  beyond : listed h ≡ true → length xs ≡ fixedLength h → records ≤ cicIn xs → bodyOf records h xs ≡ refused 2 3
   unfolding bodyOf
-  beyond e n r = at5 (fieldsIn h xs) (not (listed h)) (unfit h (length xs)) o₂ o₃ o₄ (leb records (cicIn xs)) (ap not e) (fit ∙ ap not (eq-eqb _ _ n)) (never _) (never _) (never _) (le-leb _ _ r)
+  beyond e n r = at5 (fieldsIn h xs) (length xs) c₂ c₄ (not (listed h)) (unfit h (length xs)) o₂ o₃ o₄ (leb records (cicIn xs)) (ap not e) (fit ∙ ap not (eq-eqb _ _ n)) (never _) (never _) (never _) (le-leb _ _ r)
 
-  taken : listed h ≡ true → length xs ≡ fixedLength h → cicIn xs < records → bodyOf records h xs ≡ fieldsIn h xs
+  pub taken : listed h ≡ true → length xs ≡ fixedLength h → cicIn xs < records → bodyOf records h xs ≡ fieldsIn h xs
   unfolding bodyOf
   taken e n r =
-      at6 (fieldsIn h xs) (not (listed h)) (unfit h (length xs)) o₂ o₃ o₄ (leb records (cicIn xs)) (ap not e) (fit ∙ ap not (eq-eqb _ _ n)) (never _) (never _) (never _) (lt-leb _ _ r)
+      at6 (fieldsIn h xs) (length xs) c₂ c₄ (not (listed h)) (unfit h (length xs)) o₂ o₃ o₄ (leb records (cicIn xs)) (ap not e) (fit ∙ ap not (eq-eqb _ _ n)) (never _) (never _) (never _) (lt-leb _ _ r)
 
 -- the same where the length was looked up
 module _ (records h : ℕ) (xs : List ℕ) (octets : (i : ℕ) → getD xs i 0 < 256) (differs : h ≡ 0x11 → ⊥) (fixed : ℕ) (is : fixed ≡ cond (listed h) (fixedLength h) 0) where
   other : isIam h ≡ false
   other = ne-eqb h 0x11 differs
 
-  pub looked-none : fixed ≡ 0 → bodyOf records h xs ≡ refused 9
+  pub looked-none : fixed ≡ 0 → bodyOf records h xs ≡ refused 9 5
   looked-none e = unlisted records h xs other (no-length h (sym is ∙ e))
 
   module _ (some : fixed ≡ 0 → ⊥) where
     known : listed h ≡ true
     known = a-length h (λ e. some (is ∙ e))
 
-    pub looked-long : (length xs ≡ fixed → ⊥) → bodyOf records h xs ≡ refused 7
+    pub looked-long : (length xs ≡ fixed → ⊥) → bodyOf records h xs ≡ refused 7 (length xs)
     looked-long n = long records h xs other known (λ e. n (e ∙ sym (the-length h fixed is known)))
 
     module _ (n : length xs ≡ fixed) (circuit : ℕ) (k : circuit ≡ cicIn xs) where
-      pub looked-beyond : records ≤ circuit → bodyOf records h xs ≡ refused 2
+      pub looked-beyond : records ≤ circuit → bodyOf records h xs ≡ refused 2 3
       looked-beyond r = beyond records h xs other known (n ∙ the-length h fixed is known) (rw k at r)
 
       module _ (r : circuit < records) where
@@ -136,6 +143,10 @@ module _ (records : ℕ) (xs : List ℕ) where
   abbrev address : List ℕ
   address = signalsBy (formatOf 0x11) xs
 
+  -- the octet of the first signal that is refused
+  abbrev s₄ : ℕ
+  s₄ = signalOctet (formatOf 0x11) (firstBad address)
+
   abbrev t₁ : Bool
   t₁ = ltb (length xs) 9
 
@@ -151,39 +162,39 @@ module _ (records : ℕ) (xs : List ℕ) where
   abbrev t₅ : Bool
   t₅ = leb records (cicIn xs)
 
-  pub iam-short : length xs < 9 → bodyOf records 0x11 xs ≡ refused 7
+  pub iam-short : length xs < 9 → bodyOf records 0x11 xs ≡ refused 7 (length xs)
   unfolding bodyOf
-  iam-short h = at1 (fieldsIn 0x11 xs) false t₁ t₂ t₃ t₄ t₅ refl (lt-ltb _ _ h)
+  iam-short h = at1 (fieldsIn 0x11 xs) (length xs) 8 s₄ false t₁ t₂ t₃ t₄ t₅ refl (lt-ltb _ _ h)
 
   module _ (h : 9 ≤ length xs) where
-    iam-empty : counted ≡ 0 → bodyOf records 0x11 xs ≡ refused 10
+    iam-empty : counted ≡ 0 → bodyOf records 0x11 xs ≡ refused 10 8
     unfolding bodyOf
-    iam-empty z = at2 (fieldsIn 0x11 xs) false t₁ t₂ t₃ t₄ t₅ refl (le-ltb _ _ h) (eq-eqb _ _ z)
+    iam-empty z = at2 (fieldsIn 0x11 xs) (length xs) 8 s₄ false t₁ t₂ t₃ t₄ t₅ refl (le-ltb _ _ h) (eq-eqb _ _ z)
 
     module _ (z : counted ≡ 0 → ⊥) where
-      iam-long : (length xs ≡ octetsFor (formatOf 0x11) counted → ⊥) → bodyOf records 0x11 xs ≡ refused 7
+      iam-long : (length xs ≡ octetsFor (formatOf 0x11) counted → ⊥) → bodyOf records 0x11 xs ≡ refused 7 (length xs)
       unfolding bodyOf
-      iam-long n = at3 (fieldsIn 0x11 xs) false t₁ t₂ t₃ t₄ t₅ refl (le-ltb _ _ h) (ne-eqb _ _ z) (ap not (ne-eqb _ _ n))
+      iam-long n = at3 (fieldsIn 0x11 xs) (length xs) 8 s₄ false t₁ t₂ t₃ t₄ t₅ refl (le-ltb _ _ h) (ne-eqb _ _ z) (ap not (ne-eqb _ _ n))
 
       module _ (n : length xs ≡ octetsFor (formatOf 0x11) counted) where
-        iam-codes : badCodes address ≡ true → bodyOf records 0x11 xs ≡ refused 10
+        iam-codes : badCodes address ≡ true → bodyOf records 0x11 xs ≡ refused 10 s₄
         unfolding bodyOf
-        iam-codes b = at4 (fieldsIn 0x11 xs) false t₁ t₂ t₃ t₄ t₅ refl (le-ltb _ _ h) (ne-eqb _ _ z) (ap not (eq-eqb _ _ n)) b
+        iam-codes b = at4 (fieldsIn 0x11 xs) (length xs) 8 s₄ false t₁ t₂ t₃ t₄ t₅ refl (le-ltb _ _ h) (ne-eqb _ _ z) (ap not (eq-eqb _ _ n)) b
 
-        iam-beyond : badCodes address ≡ false → records ≤ cicIn xs → bodyOf records 0x11 xs ≡ refused 2
+        iam-beyond : badCodes address ≡ false → records ≤ cicIn xs → bodyOf records 0x11 xs ≡ refused 2 3
         unfolding bodyOf
-        iam-beyond b r = at5 (fieldsIn 0x11 xs) false t₁ t₂ t₃ t₄ t₅ refl (le-ltb _ _ h) (ne-eqb _ _ z) (ap not (eq-eqb _ _ n)) b (le-leb _ _ r)
+        iam-beyond b r = at5 (fieldsIn 0x11 xs) (length xs) 8 s₄ false t₁ t₂ t₃ t₄ t₅ refl (le-ltb _ _ h) (ne-eqb _ _ z) (ap not (eq-eqb _ _ n)) b (le-leb _ _ r)
 
-        iam-taken : badCodes address ≡ false → cicIn xs < records → bodyOf records 0x11 xs ≡ fieldsIn 0x11 xs
+        pub iam-taken : badCodes address ≡ false → cicIn xs < records → bodyOf records 0x11 xs ≡ fieldsIn 0x11 xs
         unfolding bodyOf
-        iam-taken b r = at6 (fieldsIn 0x11 xs) false t₁ t₂ t₃ t₄ t₅ refl (le-ltb _ _ h) (ne-eqb _ _ z) (ap not (eq-eqb _ _ n)) b (lt-leb _ _ r)
+        iam-taken b r = at6 (fieldsIn 0x11 xs) (length xs) 8 s₄ false t₁ t₂ t₃ t₄ t₅ refl (le-ltb _ _ h) (ne-eqb _ _ z) (ap not (eq-eqb _ _ n)) b (lt-leb _ _ r)
 
 -- the same of an IAM whose two octets were read as the number w
 module _ (records : ℕ) (xs : List ℕ) (octets : (i : ℕ) → getD xs i 0 < 256) (w : ℕ) (is : w ≡ numberOf (getD xs 7 0 ∷ getD xs 8 0 ∷ [])) where
   count : counted records xs ≡ w / 4096
   count = countThere xs octets ∙ ap (λ (v : ℕ). v / 4096) (sym is)
 
-  pub empty : 9 ≤ length xs → w / 4096 ≡ 0 → bodyOf records 0x11 xs ≡ refused 10
+  pub empty : 9 ≤ length xs → w / 4096 ≡ 0 → bodyOf records 0x11 xs ≡ refused 10 8
   empty h z = iam-empty records xs h (count ∙ z)
 
   module _ (h : 9 ≤ length xs) (z : w / 4096 ≡ 0 → ⊥) where
@@ -193,7 +204,7 @@ module _ (records : ℕ) (xs : List ℕ) (octets : (i : ℕ) → getD xs i 0 < 2
     octetsCounted : octetsFor (formatOf 0x11) (counted records xs) ≡ 9 + half (w / 4096)
     octetsCounted = iamOctets (counted records xs) ∙ ap (λ (v : ℕ). 9 + half v) count
 
-    pub too-long : (length xs ≡ 9 + half (w / 4096) → ⊥) → bodyOf records 0x11 xs ≡ refused 7
+    pub too-long : (length xs ≡ 9 + half (w / 4096) → ⊥) → bodyOf records 0x11 xs ≡ refused 7 (length xs)
     too-long n = iam-long records xs h some (λ e. n (e ∙ octetsCounted))
 
     module _ (n : length xs ≡ 9 + half (w / 4096)) (codes : List ℕ) (c : codes ≡ over (take (w / 4096) (halves (drop 9 xs))) noCodes) where
@@ -224,17 +235,28 @@ module _ (records : ℕ) (xs : List ℕ) (octets : (i : ℕ) → getD xs i 0 < 2
           ap (take (w / 4096)) c ∙ take-at (take (w / 4096) (halves (drop 9 xs))) (drop (length (take (w / 4096) (halves (drop 9 xs)))) noCodes) (w / 4096) how-many
           ∙ sym there
 
-      pub spoilt : badCodes (take (w / 4096) codes) ≡ true → bodyOf records 0x11 xs ≡ refused 10
-      spoilt b = iam-codes records xs h some whole (sym (ap badCodes the-address) ∙ b)
+      -- the first signal that is refused, as the program looks for it
+      module _ (bad : ℕ) (first : bad ≡ firstBad (take (w / 4096) codes)) where
+        sooner : badCodes (address records xs) ≡ ltb bad (w / 4096)
+        sooner = sym (ap badCodes the-address) ∙ someBefore badCode (take (w / 4096) codes) ∙ ap₂ ltb (sym first) (sym prefix)
 
-      module _ (b : badCodes (take (w / 4096) codes) ≡ false) where
-        pub no-circuit : records ≤ cicIn xs → bodyOf records 0x11 xs ≡ refused 2
-        no-circuit r = iam-beyond records xs h some whole (sym (ap badCodes the-address) ∙ b) r
+        its-octet : s₄ records xs ≡ 9 + bad / 2
+        its-octet = ap (λ (l : List ℕ). signalOctet (formatOf 0x11) (firstBad l)) (sym the-address) ∙ ap (signalOctet (formatOf 0x11)) (sym first) ∙ signalOctets bad
+
+        pub spoilt : bad < w / 4096 → bodyOf records 0x11 xs ≡ refused 10 (9 + bad / 2)
+        spoilt b = iam-codes records xs h some whole (sooner ∙ lt-ltb _ _ b) ∙ ap (refused 10) its-octet
+
+        pub unspoilt : w / 4096 ≤ bad → badCodes (address records xs) ≡ false
+        unspoilt b = sooner ∙ le-ltb _ _ b
+
+      module _ (b : badCodes (address records xs) ≡ false) where
+        pub no-circuit : records ≤ cicIn xs → bodyOf records 0x11 xs ≡ refused 2 3
+        no-circuit r = iam-beyond records xs h some whole b r
 
         pub read-whole : (circuit : Cic) → circuit .0 ≡ cicIn xs → circuit .0 < records
-            → bodyOf records 0x11 xs ≡ record { refusal = 0; circuit = circuit; heading = 0x11; acm = 0; category = getD xs 6 0 % 64; indicators = w % 2048; count = w / 4096; address = codes }
+            → bodyOf records 0x11 xs ≡ record { refusal = 0; place = 0; circuit = circuit; heading = 0x11; acm = 0; category = getD xs 6 0 % 64; indicators = w % 2048; count = w / 4096; address = codes }
         read-whole circuit k r =
-            iam-taken records xs h some whole (sym (ap badCodes the-address) ∙ b) (rw k at r)
+            iam-taken records xs h some whole b (rw k at r)
             ∙ ap (λ (v : ℕ). made (record { 0 = v }) category indicators (counted records xs) (over (address records xs) noCodes)) (sym k)
             ∙ ap (λ (v : ℕ). made circuit v indicators (counted records xs) (over (address records xs) noCodes)) (categoryThere xs octets)
             ∙ ap (λ (v : ℕ). made circuit (getD xs 6 0 % 64) v (counted records xs) (over (address records xs) noCodes)) (indicatorsThere xs octets ∙ ap (λ (v : ℕ). v % 2048) (sym is))
@@ -248,22 +270,22 @@ module _ (records : ℕ) (xs : List ℕ) (octets : (i : ℕ) → getD xs i 0 < 2
             indicators = fieldBy (formatOf 0x11) INDICATORS xs
 
             made : Cic → ℕ → ℕ → ℕ → List ℕ → Fields
-            made circuit category indicators count address = record { refusal = 0; circuit = circuit; heading = 0x11; acm = 0; category = category; indicators = indicators; count = count; address = address }
+            made circuit category indicators count address = record { refusal = 0; place = 0; circuit = circuit; heading = 0x11; acm = 0; category = category; indicators = indicators; count = count; address = address }
 
 -- the first three tests
 module _ (own far records : ℕ) (xs : List ℕ) where
   abbrev begun : Bool → Bool → Bool → Fields
-  begun b₀ b₁ b₂ = unless (cond b₀ 1 (cond b₁ 7 (cond b₂ 8 (firstOf (bodyRules records (headingIn xs) xs))))) (fieldsIn (headingIn xs) xs)
+  begun b₀ b₁ b₂ = judged (fault 1 b₀ 0 ∷ fault 7 b₁ (length xs) ∷ fault 8 b₂ (strayOctet own xs) ∷ bodyFaults records (headingIn xs) xs) (fieldsIn (headingIn xs) xs)
 
-  pub bad-group : badGroup own far records ≡ true → fieldsOf own far records xs ≡ refused 1
+  pub bad-group : badGroup own far records ≡ true → fieldsOf own far records xs ≡ refused 1 0
   unfolding fieldsOf
   bad-group e = ap (λ (b : Bool). begun b (ltb (length xs) 6) (elsewhere own far xs)) e
 
-  pub short : badGroup own far records ≡ false → length xs < 6 → fieldsOf own far records xs ≡ refused 7
+  pub short : badGroup own far records ≡ false → length xs < 6 → fieldsOf own far records xs ≡ refused 7 (length xs)
   unfolding fieldsOf
   short e h = ap (λ (b : Bool). begun b (ltb (length xs) 6) (elsewhere own far xs)) e ∙ ap (λ (b : Bool). begun false b (elsewhere own far xs)) (lt-ltb _ _ h)
 
-  pub stray : badGroup own far records ≡ false → 6 ≤ length xs → elsewhere own far xs ≡ true → fieldsOf own far records xs ≡ refused 8
+  pub stray : badGroup own far records ≡ false → 6 ≤ length xs → elsewhere own far xs ≡ true → fieldsOf own far records xs ≡ refused 8 (strayOctet own xs)
   unfolding fieldsOf
   stray e h s = ap (λ (b : Bool). begun b (ltb (length xs) 6) (elsewhere own far xs)) e ∙ ap (λ (b : Bool). begun false b (elsewhere own far xs)) (le-ltb _ _ h) ∙ ap (begun false false) s
 
@@ -280,6 +302,9 @@ module _ (own far records : ℕ) (xs : List ℕ) where
 module _ (label : ℕ) (xs : List ℕ) (octets : (i : ℕ) → getD xs i 0 < 256) (is : label ≡ numberOf (getD xs 0 0 ∷ getD xs 1 0 ∷ getD xs 2 0 ∷ getD xs 3 0 ∷ getD xs 4 0 ∷ [])) where
   pub strays : (own far : ℕ) {b : Bool} → (not (eqb (label % 2 ^ 14) own) || not (eqb (label / 2 ^ 14 % 2 ^ 14) far)) ≡ b → elsewhere own far xs ≡ b
   strays own far e = rw (dpcThere xs octets, opcThere xs octets, ← is) e
+
+  pub stray-at : (own : ℕ) → cond (eqb (label % 2 ^ 14) own) 1 0 ≡ strayOctet own xs
+  stray-at own = rw (dpcThere xs octets, ← is)
 
   pub the-circuit : label / 2 ^ 28 ≡ cicIn xs
   the-circuit = ap (λ (l : ℕ). l / 2 ^ 28) is ∙ sym (cicThere xs octets)

@@ -4,12 +4,11 @@
 use mathlib.Core.List.{List}
 use Prim.Native.Nat.{ℕ}
 use Rattle.reader.specs.declared.Fields.{Fields}
-use Rattle.circuit.specs.Refusals.{firstOf}
-use Rattle.reader.specs.Reading.{bodyRules, noCodes, fieldsIn, unless}
+use Rattle.reader.specs.Reading.{bodyFaults, noCodes, fieldsIn, judged}
 
 -- what a message with the heading is read as, its label being in order
 unfoldable pub bodyOf : ℕ → ℕ → List ℕ → Fields
-bodyOf records heading xs = unless (firstOf (bodyRules records heading xs)) (fieldsIn heading xs)
+bodyOf records heading xs = judged (bodyFaults records heading xs) (fieldsIn heading xs)
 
 abbrev pub plainFields : (circuit heading acm : ℕ) → Fields
-plainFields circuit heading acm = record { refusal = 0; circuit = record { 0 = circuit }; heading = heading; acm = acm; category = 0; indicators = 0; count = 0; address = noCodes }
+plainFields circuit heading acm = record { refusal = 0; place = 0; circuit = record { 0 = circuit }; heading = heading; acm = acm; category = 0; indicators = 0; count = 0; address = noCodes }

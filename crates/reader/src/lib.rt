@@ -19,10 +19,11 @@ const SPARE_INDICATOR: u64 = 2048;
 
 const SPARE_BITS: u8 = 64;
 
-// A message by numbers, or the refusal of one with every other field 0: circuit, heading, ACM's octet, IAM's category, indicators and count,
+// A message by numbers, or the refusal of one with its place and every other field 0: circuit, heading, ACM's octet, IAM's category, indicators and count,
 // and its address signals. A field that the heading does not have is 0, and so is each code from the count on.
 pub struct Fields {
     pub refusal: u8,
+    pub place: u64,
     pub circuit: Cic,
     pub heading: u8,
     pub acm: u8,
@@ -43,9 +44,10 @@ pub struct Message {
     pub address: [u8; 15],
 }
 
-// The refusal's number, 0 where there is none, and the message, whose signal is unknown where it is refused.
+// The refusal's number and its place, both 0 where there is none, and the message, whose signal is unknown where it is refused.
 pub struct Reading {
     pub refusal: u8,
+    pub place: u64,
     pub message: Message,
 }
 
@@ -74,11 +76,12 @@ fn codes_in(octets: &[u8], count: usize) -> [u8; 15]
     codes
 }
 
-fn refused(n: u8) -> Fields
-    ensures { λ r. ⌜ r ≡ refused n ⌝ }
+fn refused(n: u8, place: u64) -> Fields
+    ensures { λ r. ⌜ r ≡ refused n place ⌝ }
 {
     Fields {
         refusal: n,
+        place: place,
         circuit: Cic(0),
         heading: 0,
         acm: 0,
@@ -89,11 +92,19 @@ fn refused(n: u8) -> Fields
     }
 }
 
+// A length refusal names the length that arrived.
+fn wrong_length(octets: &[u8]) -> Fields
+    ensures { λ r. ⌜ r ≡ refused 7 (length (now (octets .entry))) ⌝ }
+{
+    refused(names::WRONG_LENGTH, octets.len() as u64)
+}
+
 fn plain_fields(circuit: Cic, heading: u8, acm: u8) -> Fields
     ensures { λ r. ⌜ r ≡ plainFields (circuit .0) heading acm ⌝ }
 {
     Fields {
         refusal: names::ACCEPTED,
+        place: 0,
         circuit: circuit,
         heading: heading,
         acm: acm,
@@ -110,25 +121,27 @@ fn read_iam(records: usize, circuit: Cic, octets: &[u8]) -> Fields
     ensures { λ r. ⌜ r ≡ bodyOf records iamHeading (now (octets .entry)) ⌝ }
 {
     if octets.len() < formats::IAM_OCTETS {
-        return refused(names::WRONG_LENGTH);
+        return wrong_length(octets);
     }
     let word = words::number(octets[7], octets[8], 0, 0, 0, 0, 0, 0);
     let count = (word / formats::COUNT_PLACE) as usize;
     if count == 0 {
-        return refused(names::WRONG_ADDRESS);
+        return refused(names::WRONG_ADDRESS, formats::COUNT_OCTET);
     }
     if octets.len() != formats::IAM_OCTETS + (count + 1) / 2 {
-        return refused(names::WRONG_LENGTH);
+        return wrong_length(octets);
     }
     let codes = codes_in(octets, count);
-    if formats::bad_codes(&codes[..count]) {
-        return refused(names::WRONG_ADDRESS);
+    let bad = formats::first_bad(&codes[..count]);
+    if bad < count {
+        return refused(names::WRONG_ADDRESS, (formats::IAM_OCTETS + bad / 2) as u64);
     }
     if records <= circuit.0 as usize {
-        return refused(names::NO_SUCH_CIRCUIT);
+        return refused(names::NO_SUCH_CIRCUIT, formats::CIC_OCTET);
     }
     Fields {
         refusal: names::ACCEPTED,
+        place: 0,
         circuit: circuit,
         heading: formats::IAM as u8,
         acm: 0,
@@ -150,13 +163,13 @@ fn read_body(records: usize, circuit: Cic, octets: &[u8]) -> Fields
     }
     let fixed = formats::fixed_length(heading as u32);
     if fixed == 0 {
-        return refused(names::NO_SUCH_HEADING);
+        return refused(names::NO_SUCH_HEADING, formats::HEADING_OCTET);
     }
     if octets.len() != fixed {
-        return refused(names::WRONG_LENGTH);
+        return wrong_length(octets);
     }
     if records <= circuit.0 as usize {
-        return refused(names::NO_SUCH_CIRCUIT);
+        return refused(names::NO_SUCH_CIRCUIT, formats::CIC_OCTET);
     }
     if heading == formats::ACM as u8 {
         return plain_fields(circuit, heading, octets[6] % SPARE_BITS);
@@ -174,15 +187,25 @@ fn elsewhere(own: PointCode, far: PointCode, label: u64) -> bool
     label / formats::OPC_PLACE % formats::OPC_PLACE != far.0 as u64
 }
 
+// Where such a label is wrong: at DPC, and where that is right at OPC.
+fn stray_octet(own: PointCode, label: u64) -> u64
+    ensures { λ r. ⌜ r ≡ cond (eqb (label % 2 ^ 14) (own .0)) 1 0 ⌝ }
+{
+    if label % formats::OPC_PLACE == own.0 as u64 {
+        return formats::OPC_OCTET;
+    }
+    formats::DPC_OCTET
+}
+
 // What the octets that arrived from the far end say by numbers, in a group with so many records.
 pub fn read_fields(own: PointCode, far: PointCode, records: usize, octets: &[u8]) -> Fields
     ensures { λ r. ⌜ r ≡ fieldsOf (own .0) (far .0) records (now (octets .entry)) ⌝ }
 {
     if circuit::bad_group(own, far, records) {
-        return refused(names::NO_SUCH_GROUP);
+        return refused(names::NO_SUCH_GROUP, 0);
     }
     if octets.len() < formats::PLAIN_OCTETS {
-        return refused(names::WRONG_LENGTH);
+        return wrong_length(octets);
     }
     let label = words::number(
         octets[0],
@@ -195,7 +218,7 @@ pub fn read_fields(own: PointCode, far: PointCode, records: usize, octets: &[u8]
         0,
     );
     if elsewhere(own, far, label) {
-        return refused(names::WRONG_LABEL);
+        return refused(names::WRONG_LABEL, stray_octet(own, label));
     }
     read_body(records, Cic((label / formats::CIC_PLACE) as u32), octets)
 }
@@ -218,6 +241,7 @@ pub fn read(own: PointCode, far: PointCode, records: usize, octets: &[u8]) -> Re
     };
     Reading {
         refusal: f.refusal,
+        place: f.place,
         message: message,
     }
 }

@@ -12,7 +12,7 @@ use lib.Seq.{paste, paste-suc}
 use Rattle.reader.specs.declared.Fields.{Fields}
 use Rattle.words.specs.Octets.{over}
 use Rattle.reader.specs.Reading.{fieldsOf}
-use Rattle.tup.specs.Entries.{fieldsHead, fieldsOctets, Told, telling, readInto}
+use Rattle.tup.specs.Entries.{fieldsHead, fieldsOctets, packedRefusal, Told, telling, readInto}
 use Rattle.formats.proofs.Stores.{paste-behind}
 
 -- an answer and a buffer that are told
@@ -37,10 +37,10 @@ module _ (own far count : ℕ) (xs buffer : List ℕ) (f : Fields) (is : f ≡ f
   unfolding readInto
   told = ap (λ (f : Fields). telling (f .refusal) f buffer) (sym is)
 
-  pub refuses : (f .refusal ≡ 0 → ⊥) → readInto own far count xs buffer ≡ record { answer = f .refusal; buffer = buffer }
+  pub refuses : (f .refusal ≡ 0 → ⊥) → readInto own far count xs buffer ≡ record { answer = packedRefusal (f .refusal) (f .place); buffer = buffer }
   refuses n = told ∙ go (f .refusal) n
     where
-      go : (k : ℕ) → (k ≡ 0 → ⊥) → telling k f buffer ≡ record { answer = k; buffer = buffer }
+      go : (k : ℕ) → (k ≡ 0 → ⊥) → telling k f buffer ≡ record { answer = packedRefusal k (f .place); buffer = buffer }
       go zero n = absurd (n refl)
       go (suc k) n = refl
 

@@ -2,7 +2,7 @@
 -- Assumes nothing.
 use mathlib.Core.Bool.{cond}
 use mathlib.Core.List.{List, [], _∷_, _++_}
-use Prim.Native.Nat.{ℕ, zero, suc, _+_, _*_}
+use Prim.Native.Nat.{ℕ, zero, suc, _+_, _*_, min}
 use lib.Dec.{ltb}
 use lib.ListN.{length}
 use Rattle.reader.specs.declared.Fields.{Fields}
@@ -24,11 +24,19 @@ pub record Told : Type 0 where
   pub answer : ℕ
   pub buffer : List ℕ
 
--- the fields stand at the start of the buffer; a refusal leaves it as it was, and 11, a buffer under 23 octets, is the last of all
+-- the refusal and 256 times the place, which is not given above 2^56 - 1: a longer message is told as one of that length
+abbrev pub mostPlace : ℕ
+mostPlace = 0xffffffffffffff
+
+abbrev pub packedRefusal : (refusal place : ℕ) → ℕ
+packedRefusal refusal place = refusal + 256 * min place mostPlace
+
+-- the fields stand at the start of the buffer; a refusal leaves it as it was, and 11, a buffer under 23 octets, is the last of all, and no fault of
+-- the message: its place is 0
 abbrev pub telling : ℕ → Fields → List ℕ → Told
 telling zero f buffer =
     cond (ltb (length buffer) 23) (record { answer = 11; buffer = buffer }) (record { answer = 0; buffer = over (fieldsOctets f) buffer })
-telling (suc n) f buffer = record { answer = suc n; buffer = buffer }
+telling (suc n) f buffer = record { answer = packedRefusal (suc n) (f .place); buffer = buffer }
 
 unfoldable pub readInto : ℕ → ℕ → ℕ → List ℕ → List ℕ → Told
 readInto own far count xs buffer = telling (fieldsOf own far count xs .refusal) (fieldsOf own far count xs) buffer

@@ -14,7 +14,7 @@ ghost use Rattle.group.specs.Table.{stepIn};
 ghost use Rattle.select.specs.Selection.{selectIn};
 ghost use Rattle.writer.specs.Writing.{said};
 ghost use Rattle.tup.specs.Packed.{packedChoice, ChoiceUnpacked};
-ghost use Rattle.tup.specs.Entries.{fieldsOctets, readInto, writeFrom};
+ghost use Rattle.tup.specs.Entries.{fieldsOctets, packedRefusal, readInto, writeFrom};
 
 // The octets that the fields of a message take, and where its fifteen codes stand among them.
 const FIELDS_OCTETS: usize = 23;
@@ -22,6 +22,9 @@ const FIELDS_OCTETS: usize = 23;
 const CODES_FROM: usize = 8;
 
 const CODES: usize = 15;
+
+// The most that a place can be behind the eight bits of a refusal.
+const MOST_PLACE: u64 = 0xffffffffffffff;
 
 // An event on a circuit of a group: own and far point code, the group's table of records, the circuit; the event by its kind (1 signal,
 // 2 command, 3 timer), its code and its detail. The answer is packed into one number.
@@ -98,19 +101,29 @@ fn put_fields(f: Fields, out: &mut [u8])
     put_codes(&address, out);
 }
 
-// Reads a message from its label on, in a group of `count` circuits. The answer is the refusal; where it is 0 the fields go to the first 23
-// octets of `out`.
+// The refusal of a message and its place in one number.
+fn pack_refusal(refusal: u8, place: u64) -> u64
+    ensures { λ r. ⌜ r ≡ packedRefusal refusal place ⌝ }
+{
+    if place < MOST_PLACE {
+        return refusal as u64 + 256 * place;
+    }
+    refusal as u64 + 256 * MOST_PLACE
+}
+
+// Reads a message from its label on, in a group of `count` circuits. The answer is the refusal and 256 times its place; where it is 0 the fields
+// go to the first 23 octets of `out`.
 #[no_mangle]
-pub extern "C" fn tup_read(own: u32, far: u32, count: u32, octets: &[u8], out: &mut [u8]) -> u32
+pub extern "C" fn tup_read(own: u32, far: u32, count: u32, octets: &[u8], out: &mut [u8]) -> u64
     ensures answers { λ r. ⌜ r ≡ readInto own far count (now (octets .entry)) (now (out .entry)) .answer ⌝ }
     ensures leaves { λ _. ⌜ now (out .exit) ≡ readInto own far count (now (octets .entry)) (now (out .entry)) .buffer ⌝ }
 {
     let f = reader::read_fields(PointCode(own), PointCode(far), count as usize, octets);
     if f.refusal != names::ACCEPTED {
-        return f.refusal as u32;
+        return pack_refusal(f.refusal, f.place);
     }
     if out.len() < FIELDS_OCTETS {
-        return names::OUTPUT_TOO_SHORT as u32;
+        return names::OUTPUT_TOO_SHORT as u64;
     }
     put_fields(f, out);
     0

@@ -1,59 +1,20 @@
 -- `formats::bad_codes` meets its contract.
 -- Assumes nothing.
+use Rattle.formats.proofs.Signals.{someBefore}
+use Rattle.formats.specs.Octets.{badCode}
+use lib.Dec.{ltb}
+use lib.ListN.{length}
+use Prim.Native.Nat.{ℕ}
+use mathlib.Core.Path.{sym, ap, _∙_}
 use borrow.Author.Needs.{needs}
-use Rattle.formats.proofs.Signals.{passes, meets, ends}
-use Rattle.formats.specs.Octets.{badCode, badCodes}
-use lib.ListN.{length, drop}
-use Prim.Native.Nat.{_≤_, _-_}
-use mathlib.Core.Path.{_≡_, refl, sym, _∙_}
 use Rattle.formats.proofs.bad_codes.Statement.{statement}
 use Rattle.formats.proofs.bad_codes.Tie as tie
 
-abbrev Inv-loop : tie.InvT-loop
-Inv-loop address i₀ i = (i ≤ length address) × (badCodes address ≡ badCodes (drop i address))
+first-bad-requires : tie.Need-first-bad-requires
+first-bad-requires c κs = search needs
 
-abbrev μ-loop : tie.MeasureT-loop
-μ-loop address i₀ i = length address - i
-
-loop-holds : tie.Need-loop-holds Inv-loop μ-loop
-loop-holds c = (search needs, refl)
-
-shared-slice-read-bad-code : tie.Need-shared-slice-read-bad-code Inv-loop μ-loop
-shared-slice-read-bad-code c = search needs
-
-add-bad-code : tie.Need-add-bad-code Inv-loop μ-loop
-add-bad-code c = search needs
-
-bad-code-requires : tie.Need-bad-code-requires Inv-loop μ-loop
-bad-code-requires c κs = search needs
-
-returns : tie.Need-returns Inv-loop μ-loop
-returns c = sym (meets badCode _ _ (c .before .before .before .loop-test .taken) (sym (c .before .bad-code .ensures) ∙ c .if1 .taken) (c .before .before .before .before .loop .inv .1))
-
-add-i : tie.Need-add-i Inv-loop μ-loop
-add-i c = search needs
-
-loop-less : tie.Need-loop-less Inv-loop μ-loop
-loop-less c = search needs
-
-loop-again : tie.Need-loop-again Inv-loop μ-loop
-loop-again c = (search needs, passes badCode _ _ (c .before .before .before .loop-test .taken) (sym (c .before .bad-code .ensures) ∙ c .if1 .left) (c .before .before .before .before .loop .inv .1))
-
-returns-2 : tie.Need-returns-2 Inv-loop μ-loop
-returns-2 c = sym (ends badCode _ _ (c .loop-test .left) (c .before .loop .inv .1))
+returns : tie.Need-returns
+returns c = ap (λ (k : ℕ). ltb k (length (c .before .before .args .address .now))) (c .first-bad .ensures) ∙ sym (someBefore badCode (c .before .before .args .address .now))
 
 pub bad-codes-spec : {M : Type 1} → statement M
-bad-codes-spec =
-    tie.close
-    (tie.spec
-    Inv-loop
-    μ-loop
-    loop-holds
-    shared-slice-read-bad-code
-    add-bad-code
-    bad-code-requires
-    returns
-    add-i
-    loop-less
-    loop-again
-    returns-2)
+bad-codes-spec = tie.close (tie.spec first-bad-requires returns)

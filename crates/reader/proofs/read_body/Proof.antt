@@ -34,20 +34,20 @@ refused-requires c κs = search needs
 returns-2 : tie.Need-returns-2
 returns-2 c = c .refused .ensures ∙ sym (looked-none _ _ _ (λ i. c .before .before .before .before .shared-slice-known2 .given i .fits) (c .before .before .before .if1 .left) _ (c .before .before .fixed-length .ensures) (c .before .if2 .taken))
 
-refused-requires-2 : tie.Need-refused-requires-2
-refused-requires-2 c κs = search needs
+wrong-length-requires : tie.Need-wrong-length-requires
+wrong-length-requires c κs = search needs
 
 returns-3 : tie.Need-returns-3
-returns-3 c = c .refused2 .ensures ∙ sym (looked-long _ _ _ (λ i. c .before .before .before .before .before .shared-slice-known2 .given i .fits) (c .before .before .before .before .if1 .left) _ (c .before .before .before .fixed-length .ensures) (c .before .before .if2 .left) (c .before .if3 .taken))
+returns-3 c = c .wrong-length .ensures ∙ sym (looked-long _ _ _ (λ i. c .before .before .before .before .before .shared-slice-known2 .given i .fits) (c .before .before .before .before .if1 .left) _ (c .before .before .before .fixed-length .ensures) (c .before .before .if2 .left) (c .before .if3 .taken))
 
 cast-if4 : tie.Need-cast-if4
 cast-if4 c = search needs
 
-refused-requires-3 : tie.Need-refused-requires-3
-refused-requires-3 c κs = search needs
+refused-requires-2 : tie.Need-refused-requires-2
+refused-requires-2 c κs = search needs
 
 returns-4 : tie.Need-returns-4
-returns-4 c = c .refused3 .ensures ∙ sym (looked-beyond _ _ _ (λ i. c .before .before .before .before .before .before .before .shared-slice-known2 .given i .fits) (c .before .before .before .before .before .before .if1 .left) _ (c .before .before .before .before .before .fixed-length .ensures) (c .before .before .before .before .if2 .left) (c .before .before .before .if3 .left) _ (c .before .before .before .before .before .before .before .before .before .pre .1) (c .before .if4 .taken))
+returns-4 c = c .refused2 .ensures ∙ sym (looked-beyond _ _ _ (λ i. c .before .before .before .before .before .before .before .shared-slice-known2 .given i .fits) (c .before .before .before .before .before .before .if1 .left) _ (c .before .before .before .before .before .fixed-length .ensures) (c .before .before .before .before .if2 .left) (c .before .before .before .if3 .left) _ (c .before .before .before .before .before .before .before .before .before .pre .1) (c .before .if4 .taken))
 
 cast-if5 : tie.Need-cast-if5
 cast-if5 c = search needs
@@ -79,10 +79,10 @@ read-body-spec =
     fixed-length-requires
     refused-requires
     returns-2
-    refused-requires-2
+    wrong-length-requires
     returns-3
     cast-if4
-    refused-requires-3
+    refused-requires-2
     returns-4
     cast-if5
     shared-slice-read-plain-fields

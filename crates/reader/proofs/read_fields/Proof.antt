@@ -1,8 +1,11 @@
 -- `reader::read_fields` meets its contract.
 -- Assumes nothing.
 use native.Mathlib.Omega.{arith}
-use Rattle.reader.proofs.Bodies.{bad-group, short, stray, ours-read, strays, the-circuit}
-use mathlib.Core.Path.{sym, _∙_}
+use Rattle.reader.proofs.Bodies.{bad-group, short, stray, ours-read, strays, stray-at, the-circuit}
+use Rattle.reader.specs.Reading.{refused}
+use mathlib.Core.Path.{sym, ap, _∙_}
+use Prim.Native.Nat.{ℕ, _<_}
+use lib.ListN.{getD}
 use borrow.Author.Needs.{needs}
 use Rattle.reader.proofs.read_fields.Statement.{statement}
 use Rattle.reader.proofs.read_fields.Tie as tie
@@ -16,11 +19,11 @@ refused-requires c κs = search needs
 returns : tie.Need-returns
 returns c = c .refused .ensures ∙ sym (bad-group _ _ _ _ (sym (c .before .before .bad-group .ensures) ∙ c .before .if1 .taken))
 
-refused-requires-2 : tie.Need-refused-requires-2
-refused-requires-2 c κs = search needs
+wrong-length-requires : tie.Need-wrong-length-requires
+wrong-length-requires c κs = search needs
 
 returns-2 : tie.Need-returns-2
-returns-2 c = c .refused2 .ensures ∙ sym (short _ _ _ _ (sym (c .before .before .before .bad-group .ensures) ∙ c .before .before .if1 .left) (c .before .if2 .taken))
+returns-2 c = c .wrong-length .ensures ∙ sym (short _ _ _ _ (sym (c .before .before .before .bad-group .ensures) ∙ c .before .before .if1 .left) (c .before .if2 .taken))
 
 shared-slice-read-number : tie.Need-shared-slice-read-number
 shared-slice-read-number c = search needs
@@ -43,14 +46,22 @@ number-requires c κs = search needs
 elsewhere-requires : tie.Need-elsewhere-requires
 elsewhere-requires c κs = search needs
 
-refused-requires-3 : tie.Need-refused-requires-3
-refused-requires-3 c κs = search needs
+stray-octet-requires : tie.Need-stray-octet-requires
+stray-octet-requires c κs = search needs
+
+refused-requires-2 : tie.Need-refused-requires-2
+refused-requires-2 c κs = search needs
 
 returns-3 : tie.Need-returns-3
-returns-3 c = c .refused3 .ensures ∙ sym (stray _ _ _ (c .before .before .before .before .before .before .before .before .before .before .before .before .before .args .octets .now) (sym (c .before .before .before .before .before .before .before .before .before .before .before .bad-group .ensures) ∙ c .before .before .before .before .before .before .before .before .before .before .if1 .left) (c .before .before .before .before .before .before .before .before .before .if2 .left) (strays _ (c .before .before .before .before .before .before .before .before .before .before .before .before .before .args .octets .now) (λ i. c .before .before .before .before .shared-slice-known6 .given i .fits) (c .before .before .before .number .ensures) _ _ (sym (c .before .before .elsewhere .ensures) ∙ c .before .if3 .taken)))
+returns-3 c =
+    let b = c .before in
+    let xs = b .before .before .before .before .before .before .before .before .before .before .before .before .before .args .octets .now in
+    let known : (i : ℕ) → getD xs i 0 < 256 = λ i. b .before .before .before .before .shared-slice-known6 .given i .fits in
+    c .refused2 .ensures ∙ ap (refused 8) (b .stray-octet .ensures ∙ stray-at _ xs known (b .before .before .before .number .ensures) _)
+    ∙ sym (stray _ _ _ xs (sym (b .before .before .before .before .before .before .before .before .before .before .before .bad-group .ensures) ∙ b .before .before .before .before .before .before .before .before .before .before .if1 .left) (b .before .before .before .before .before .before .before .before .before .if2 .left) (strays _ xs known (b .before .before .before .number .ensures) _ _ (sym (b .before .before .elsewhere .ensures) ∙ b .before .if3 .taken)))
 
-cast-t21 : tie.Need-cast-t21
-cast-t21 c = let k = c .before .before .before .shared-slice-known6 .given in omega (arith, c .before .before .number .ensures, k 0, k 1, k 2, k 3, k 4)
+cast-t22 : tie.Need-cast-t22
+cast-t22 c = let k = c .before .before .before .shared-slice-known6 .given in omega (arith, c .before .before .number .ensures, k 0, k 1, k 2, k 3, k 4)
 
 read-body-requires : tie.Need-read-body-requires
 read-body-requires c κs = (search needs, the-circuit _ (c .before .before .before .before .before .before .before .before .before .before .before .before .args .octets .now) (λ i. c .before .before .before .shared-slice-known6 .given i .fits) (c .before .before .number .ensures))
@@ -65,7 +76,7 @@ read-fields-spec =
     bad-group-requires
     refused-requires
     returns
-    refused-requires-2
+    wrong-length-requires
     returns-2
     shared-slice-read-number
     shared-slice-read-number-2
@@ -74,8 +85,9 @@ read-fields-spec =
     shared-slice-read-number-5
     number-requires
     elsewhere-requires
-    refused-requires-3
+    stray-octet-requires
+    refused-requires-2
     returns-3
-    cast-t21
+    cast-t22
     read-body-requires
     returns-4)

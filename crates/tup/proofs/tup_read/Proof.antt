@@ -9,14 +9,14 @@ use Rattle.tup.proofs.tup_read.Tie as tie
 read-fields-requires : tie.Need-read-fields-requires
 read-fields-requires c κs = search needs
 
-cast-result : tie.Need-cast-result
-cast-result c = search needs
+pack-refusal-requires : tie.Need-pack-refusal-requires
+pack-refusal-requires c κs = search needs
 
 returns : tie.Need-returns
-returns c = tells (refuses _ _ _ _ _ _ (c .before .before .before .read-fields .ensures) (c .before .if1 .taken)) refl refl
+returns c = tells (refuses _ _ _ _ _ _ (c .before .before .before .read-fields .ensures) (c .before .if1 .taken)) (c .pack-refusal .ensures) refl
 
-cast-result-2 : tie.Need-cast-result-2
-cast-result-2 c = search needs
+cast-result : tie.Need-cast-result
+cast-result c = search needs
 
 returns-2 : tie.Need-returns-2
 returns-2 c = tells (no-room _ _ _ _ _ _ (c .before .before .before .read-fields .ensures) (c .before .if1 .left) (c .if2 .taken)) refl refl
@@ -35,9 +35,9 @@ tup-read-spec =
     tie.close
     (tie.spec
     read-fields-requires
-    cast-result
+    pack-refusal-requires
     returns
-    cast-result-2
+    cast-result
     returns-2
     put-fields-requires
     same-length
