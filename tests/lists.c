@@ -115,19 +115,19 @@ static void save_lengths(void)
     save(file, len);
 }
 
-/* One message of each kind, one of no octets and one of the most, cut behind every octet. */
+/* One message of each kind, one of no octets and one that is too long, cut behind every octet. */
 static void save_cuts(void)
 {
     static const uint8_t clf[] = {0x01, 0x80, 0x00, 0x30, 0x00, 0x46}, acm[] = {0x01, 0x80, 0x00, 0x20, 0x00, 0x14, 0x05},
                          even[] = {0x01, 0x80, 0x00, 0x30, 0x00, 0x11, 0x0a, 0x03, 0x20, 0xf1},
-                         odd[] = {0x01, 0x80, 0x00, 0x10, 0x00, 0x11, 0x0a, 0x03, 0x30, 0x21, 0x0f}, most[LENGTH_MAX] = {0};
-    static uint8_t file[512];
+                         odd[] = {0x01, 0x80, 0x00, 0x10, 0x00, 0x11, 0x0a, 0x03, 0x30, 0x21, 0x0f}, too_long[20] = {0};
+    uint8_t file[128];
     size_t len = put_group(file, 1, 2, 4);
     len += put_message(file + len, clf, sizeof clf);
     len += put_message(file + len, acm, sizeof acm);
     len += put_message(file + len, clf, 0);
     len += put_message(file + len, even, sizeof even);
-    len += put_message(file + len, most, sizeof most);
+    len += put_message(file + len, too_long, sizeof too_long);
     len += put_message(file + len, odd, sizeof odd);
     for (size_t cut = 0; cut <= len; cut++)
         save(file, cut);

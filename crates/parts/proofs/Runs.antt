@@ -29,7 +29,7 @@ module _ {T : Type 0} {w : Making T} (law : Lawful w) where
   sharedOf : (r : Running) (t : T) (s : List ℕ) → Shared t s (shareOf (w .ahead r t s) t)
   sharedOf r t s =
       byAhead (w .ahead r t s)
-      (λ n x t' q. rw q (record { fits = law .fits r t s n x t' q; none = λ z. absurd (omega (arith, law .some r t s n x t' q)) }))
+      (λ n x t' q. rw q (let f = law .fits r t s n x t' q in record { fits = f .1; none = λ z. absurd (omega arith) }))
       (λ q. rw q (noneShared t s)) (λ q. rw q (noneShared t s)) (λ q. rw q (noneShared t s))
 
   pub shared : (r : Running) (t : T) (s : List ℕ) (n : ℕ) → Shared t s (share w r t s n)

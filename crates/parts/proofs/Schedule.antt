@@ -52,7 +52,6 @@ module _ {T : Type 0} {w : Making T} (law : Lawful w) where
   enough (suc j) (suc k) r t s h i =
       byAhead (w .ahead r t s)
       (λ n x t' q.
-      let p = law .some r t s n x t' q in
       let f = law .fits r t s n x t' q in
       rw (q, enough j k (onward r) t' (drop n s) (rw length-drop (omega arith)) (rw length-drop (omega arith))))
       (λ q. rw q) (λ q. rw q) (λ q. rw q)
@@ -73,7 +72,6 @@ module _ {T : Type 0} {w : Making T} (law : Lawful w) where
     linesTakes : (n : ℕ) (x : List ℕ) (t' : T) → w .ahead r t s ≡ Takes n x t' → lines w r t s ≡ x ++ lines w (onward r) t' (drop n s)
     unfolding lines linesWithin textAt
     linesTakes n x t' q =
-        let p = law .some r t s n x t' q in
         let f = law .fits r t s n x t' q in
         rw (q, enough (length s) (suc (length (drop n s))) (onward r) t' (drop n s) (rw length-drop (omega arith)) (omega arith))
 
@@ -86,15 +84,15 @@ module _ {T : Type 0} {w : Making T} (law : Lawful w) where
   stopsSplit : (r : Running) (t : T) (s rest : List ℕ) → Splits (Runs r) t s rest (stops w r t s) t
   unfolding textFrom stops
   stopsSplit r t s rest =
-      byAhead (w .ahead r t s) (λ n x t' q. rw q) (λ q. rw q (linesNone r t (s ++ rest) (law .noneStays r t s rest q ∙ q))) (λ q. rw q) (λ q. rw q)
+      byAhead (w .ahead r t s) (λ n x t' q. rw q) (λ q. rw q (linesNone r t (s ++ rest) (law .stays r t s rest (rw q) ∙ q))) (λ q. rw q) (λ q. rw q)
 
   takesSplit : (r : Running) (t : T) (s rest : List ℕ) (n : ℕ) (x : List ℕ) (t' : T) (p : Part T) → w .ahead r t s ≡ Takes n x t'
       → Splits (Runs (onward r)) t' (drop n s) rest p (p .state)
       → Splits (Runs r) t s rest (behind n x p) (p .state)
   unfolding textFrom
   takesSplit r t s rest n x t' p q more =
-      linesTakes r t (s ++ rest) n x t' (law .takesStays r t s rest n x t' q ∙ q)
-      ∙ ap (λ (l : List ℕ). x ++ lines w (onward r) t' l) (drop-append-le n s rest (law .fits r t s n x t' q))
+      linesTakes r t (s ++ rest) n x t' (law .stays r t s rest (rw q) ∙ q)
+      ∙ ap (λ (l : List ℕ). x ++ lines w (onward r) t' l) (drop-append-le n s rest (law .fits r t s n x t' q .1))
       ∙ ap (λ (l : List ℕ). x ++ l) more
       ∙ rw (append-assoc, drop-drop)
 
@@ -157,7 +155,7 @@ module _ {T : Type 0} {w : Making T} (law : Lawful w) where
 
     notTaken : (k : ℕ) (x : List ℕ) (t' : T) → w .ahead r t s ≡ Takes k x t' → share w r t s n .taken ≡ 0 → ⊥
     unfolding shareAt
-    notTaken k x t' q z = let e : k ≡ 0 = rw (goes, q) at z in omega (arith, law .some r t s k x t' q)
+    notTaken k x t' q z = let e : k ≡ 0 = rw (goes, q) at z in omega (arith, law .fits r t s k x t' q .0)
 
     stopLast : share w r t s n .taken ≡ 0 → lastLine (stops w r t s .stage) s ≡ lines w r t s
     unfolding stops lastLine

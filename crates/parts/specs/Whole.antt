@@ -1,8 +1,8 @@
 -- The text of a whole file (docs/RULES.md, "The trace and its replay"): the group's line, then the lines of the records one after another, and a
 -- last line. What a record is, and what its line says, differs from one kind of file to another: it is said by a `Making`.
 -- Assumes nothing.
-use mathlib.Core.Bool.{cond}
 use mathlib.Core.Path.{_≡_}
+use mathlib.Core.Bool.{Bool, true, false, cond}
 use mathlib.Core.List.{List, [], _++_}
 use Prim.Native.Nat.{ℕ, zero, suc, _+_, _-_, _≤_, _<_}
 use lib.ListN.{length, drop}
@@ -43,6 +43,13 @@ textAt NoRecord more next = cutLine next
 textAt Partial more next = cutLine next
 textAt AtEnd more next = endLine (next - 1)
 
+-- what is a whole record, or the start of none, is so whatever stands behind; what was cut short may be whole with more
+abbrev pub settled : {T : Type 0} → Ahead T → Bool
+settled (Takes taken text state) = true
+settled NoRecord = true
+settled Partial = false
+settled AtEnd = false
+
 -- the group of a file, before its first record
 abbrev pub opened : List ℕ → Running
 opened s = record { own = record { 0 = ownIn s }; far = record { 0 = farIn s }; circuits = circuitsIn s; next = 1 }
@@ -62,12 +69,10 @@ module _ {T : Type 0} (w : Making T) where
       cond (badStart s) badGroupLine
       (groupLine (ownIn s) (farIn s) (circuitsIn s) ++ lines (opened s) (w .fresh (circuitsIn s)) (drop (octetsOf 0) s))
 
-  -- what must hold so that a file can be read in parts: a record takes some of the octets that are there, and no more; octets behind do not change
-  -- what stands ahead, unless too few stand there; and the end is where no octet is
+  -- what must hold so that a file can be read in parts: a record takes an octet at least, and no more than there are; what is settled stays as it is,
+  -- whatever stands behind; and the end is where no octet is
   pub record Lawful : Type 0 where
-    pub some : (r : Running) (state : T) (s : List ℕ) (taken : ℕ) (text : List ℕ) (after : T) → w .ahead r state s ≡ Takes taken text after → 0 < taken
-    pub fits : (r : Running) (state : T) (s : List ℕ) (taken : ℕ) (text : List ℕ) (after : T) → w .ahead r state s ≡ Takes taken text after → taken ≤ length s
-    pub takesStays : (r : Running) (state : T) (s rest : List ℕ) (taken : ℕ) (text : List ℕ) (after : T) → w .ahead r state s ≡ Takes taken text after → w .ahead r state (s ++ rest) ≡ w .ahead r state s
-    pub noneStays : (r : Running) (state : T) (s rest : List ℕ) → w .ahead r state s ≡ NoRecord → w .ahead r state (s ++ rest) ≡ w .ahead r state s
+    pub fits : (r : Running) (state : T) (s : List ℕ) (taken : ℕ) (text : List ℕ) (after : T) → w .ahead r state s ≡ Takes taken text after → (0 < taken) × (taken ≤ length s)
+    pub stays : (r : Running) (state : T) (s rest : List ℕ) → settled (w .ahead r state s) ≡ true → w .ahead r state (s ++ rest) ≡ w .ahead r state s
     pub ends : (r : Running) (state : T) (s : List ℕ) → length s ≡ 0 → w .ahead r state s ≡ AtEnd
     pub ended : (r : Running) (state : T) (s : List ℕ) → w .ahead r state s ≡ AtEnd → length s ≡ 0

@@ -81,6 +81,10 @@ use Rattle.text.proofs.group_line.Reads as groupLine
 use Rattle.text.proofs.end_line.Reads as endLine
 use Rattle.text.proofs.cut_line.Reads as cutLine
 use Rattle.text.proofs.bad_group_line.Reads as badGroupLine
+use Rattle.text.proofs.refused_line.Reads as refusedLine
+use Rattle.text.proofs.plain_line.Reads as plainLine
+use Rattle.text.proofs.acm_line.Reads as acmLine
+use Rattle.text.proofs.iam_line.Reads as iamLine
 use Rattle.records.proofs.octets_of.Reads as octetsOf
 use Rattle.records.proofs.item_at.Reads as itemAt
 use Rattle.records.proofs.refused_start.Reads as refusedStart
@@ -287,7 +291,23 @@ pub ofText :
     × Leaves (λ κs s. now (s .0)) cutLine.Learnt
     × Once badGroupLine.Learnt
     × Leaves (λ κs s. now (s .0)) badGroupLine.Learnt
+    × Once refusedLine.Learnt
+    × Leaves (λ κs s. now (s .0)) refusedLine.Learnt
+    × Once plainLine.Learnt
+    × Leaves (λ κs s. now (s .0)) plainLine.Learnt
+    × Once acmLine.Learnt
+    × Leaves (λ κs s. now (s .0)) acmLine.Learnt
+    × Once iamLine.Learnt
+    × Leaves (λ κs s. now (s .0)) iamLine.Learnt
 ofText = (
+  λ κs a x y s t h k. once (h .count) (k .count),
+  λ κs a x y s t h k. once (h .room) (k .room),
+  λ κs a x y s t h k. once (h .count) (k .count),
+  λ κs a x y s t h k. once (h .room) (k .room),
+  λ κs a x y s t h k. once (h .count) (k .count),
+  λ κs a x y s t h k. once (h .room) (k .room),
+  λ κs a x y s t h k. once (h .count) (k .count),
+  λ κs a x y s t h k. once (h .room) (k .room),
   λ κs a x y s t h k. once (h .count) (k .count),
   λ κs a x y s t h k. once (h .room) (k .room),
   λ κs a x y s t h k. once (h .count) (k .count),

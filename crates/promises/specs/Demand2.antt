@@ -323,7 +323,7 @@ comesByStage r next table s = refl
 pub partsPrintTheWhole : (trace : List ℕ) (ms : List Move) → whole-text replaying (after replaying (before [] trace) ms) ≡ replay trace
 partsPrintTheWhole = inParts lawful []
 
--- and so of every kind of file whose records are of the same form whatever stands behind them
+-- and so of every kind of file of which the laws hold that a trace keeps (`parts/specs/Whole`, `Lawful`)
 pub partsOfAnyFile : {T : Type 0} {w : Making T} → Lawful w → (state : T) (file : List ℕ) (ms : List Move) → whole-text w (after w (before state file) ms) ≡ whole w file
 partsOfAnyFile = inParts
 

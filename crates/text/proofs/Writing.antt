@@ -2,16 +2,18 @@
 -- Assumes nothing.
 use mathlib.Core.Path.{_≡_, refl, sym, ap, _∙_}
 use mathlib.Core.List.{List, [], _∷_, _++_}
-use Prim.Native.Nat.{ℕ, suc, _+_, _/_, _%_, _<_, _≤_}
+use Prim.Native.Nat.{ℕ, zero, suc, _+_, _/_, _%_, _<_, _≤_}
 use native.Mathlib.Nat.{add-assoc, add-suc, suc-add, add-zero, zero-add}
 use native.Mathlib.Numerals.{add-one}
 use native.Mathlib.Omega.{arith}
-use lib.ListN.{length, getD, set, take, drop, length-append}
+use lib.Dec.{ltb}
+use lib.ListN.{length, getD, set, take, drop, length-append, length-map}
 use lib.Seq.{sets, sets-eq, length-take-le, take-suc}
 use borrow.Author.Tests.{lt-ltb, le-ltb}
-use Rattle.text.specs.Numbers.{decimal}
+use Rattle.text.specs.Numbers.{decimal, hexDigit}
+use Rattle.text.specs.Lines.{signals}
 use Rattle.text.specs.Way.{Wrote}
-use Rattle.text.proofs.Numbers.{decimal-small, decimal-large}
+use Rattle.text.proofs.Numbers.{byTest, decimal-small, decimal-large}
 use Rattle.text.specs.Writing.{Printed, lineRoom, inRoom}
 
 sets-more : (x y l : List ℕ) (i : ℕ) → sets (sets l i x) (i + length x) y ≡ sets l i (x ++ y)
@@ -34,6 +36,9 @@ whole {b} {a} {n} {x} h k w = rw (le-ltb (length b) lineRoom h) (record {
 pub nothing : (b x : List ℕ) → length b < lineRoom → Printed b (inRoom b x) 0 b
 nothing b x h = rw (lt-ltb (length b) lineRoom h) (record { count = refl; room = refl })
 
+pub noText : (b : List ℕ) → Printed b (inRoom b []) 0 b
+noText b = byTest (ltb (length b) lineRoom) (λ e. rw e (record { count = refl; room = refl })) (λ e. rw e (record { count = refl; room = refl }))
+
 -- the first i octets of a word stand there, and one more does
 pub wordMore : (b x : List ℕ) (at i : ℕ) → i < length x → set (sets b at (take i x)) (at + i) (getD x i 0) ≡ sets b at (take (i + 1) x)
 wordMore b x at i h =
@@ -46,3 +51,14 @@ small {b} {a} {at} {p} {n} h w = rw (decimal-small n h) w
 
 pub large : {b m a : List ℕ} {at q p n : ℕ} → 10 ≤ n → Wrote b at (decimal (n / 10)) q m → Wrote m q ((48 + n % 10) ∷ []) p a → Wrote b at (decimal n) p a
 large {b} {m} {a} {at} {q} {p} {n} h u v = rw (decimal-large n h) (then u v)
+
+-- an address as text has a digit for each signal
+pub signalsLength : (address : List ℕ) → length (signals address) ≡ length address
+unfolding signals
+signalsLength address = length-map address (λ d. hexDigit (d % 16))
+
+pub signalAt : (address : List ℕ) (i : ℕ) → i < length address → getD (signals address) i 0 ≡ hexDigit (getD address i 0 % 16)
+unfolding signals
+signalAt [] i h = absurd (omega arith)
+signalAt (d ∷ address) zero h = refl
+signalAt (d ∷ address) (suc i) h = signalAt address i (omega arith)
