@@ -1,4 +1,4 @@
-// Lists messages of a link from a file or standard input on standard output (docs/RULES.md, "A list of messages"); installed as tup-messages.
+// Lists messages of a link from a file or standard input on standard output (docs/RULES.md, "A file of messages"); installed as tup-messages.
 fn main() {
     console::start(
         console::LISTING,
