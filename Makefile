@@ -6,7 +6,7 @@ DESTDIR ?=
 # through the environment, where no shell takes a path with a blank apart
 export PREFIX DESTDIR
 
-proved := build/lib/libtup.a build/bin/tup-replay
+proved := build/lib/libtup.a build/bin/tup-replay build/bin/tup-messages
 headers := $(patsubst %,build/%,$(wildcard include/*.h))
 # Directories too: a file that is gone has no time to compare, but its directory has.
 sources := crates.txt $(shell find crates -name must-fail -prune -o -print)
@@ -17,8 +17,8 @@ all: lib
 need:
 	tools/need $(purpose)
 
-# The archive, its headers and the replay program in one place. The archive and the program are of one run (&:), the headers alone
-# are copied without it.
+# The archive, its headers and the programs in one place. The archive and the programs are of one run (&:), the headers alone are
+# copied without it.
 lib: $(proved) $(headers)
 
 $(proved) &: $(sources)

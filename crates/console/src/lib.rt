@@ -181,8 +181,20 @@ fn is_text(octet: u8) -> bool {
     b' ' <= octet && octet <= b'~'
 }
 
+fn tell_octets(name: &[u8], what: u8) {
+    io::write_all(STDERR_FILENO, name);
+    if what == LISTING {
+        io::write_all(STDERR_FILENO, b": this is text, and messages are");
+    } else {
+        io::write_all(STDERR_FILENO, b": this is text, and a trace is");
+    }
+    io::write_all(STDERR_FILENO, b" octets: make them with tup-octets FILE | ");
+    io::write_all(STDERR_FILENO, name);
+    io::write_all(STDERR_FILENO, b"\n");
+}
+
 // A file in its readable form has no group where its octets should begin. Whoever feeds it by mistake is told what is missing.
-fn hint(name: &[u8], stage: Stage, rest: &[u8]) {
+fn hint(name: &[u8], what: u8, stage: Stage, rest: &[u8]) {
     if has_group(stage) {
         return;
     }
@@ -190,17 +202,11 @@ fn hint(name: &[u8], stage: Stage, rest: &[u8]) {
         return;
     }
     if is_text(rest[0]) {
-        io::write_all(STDERR_FILENO, name);
-        io::write_all(
-            STDERR_FILENO,
-            b": this is text, and octets are read here: make them with tup-octets FILE | ",
-        );
-        io::write_all(STDERR_FILENO, name);
-        io::write_all(STDERR_FILENO, b"\n");
+        tell_octets(name, what);
     }
 }
 
-fn last_line(name: &[u8], p: Progress, buffer: &[u8], room: &mut [u8]) {
+fn last_line(name: &[u8], what: u8, p: Progress, buffer: &[u8], room: &mut [u8]) {
     let at = p.at;
     let have = p.have;
     if have < at || buffer.len() < have {
@@ -212,7 +218,7 @@ fn last_line(name: &[u8], p: Progress, buffer: &[u8], room: &mut [u8]) {
         failed(name, b": cannot write");
         return;
     }
-    hint(name, stage, &buffer[at..have]);
+    hint(name, what, stage, &buffer[at..have]);
 }
 
 fn work(name: &[u8], job: Job) {
@@ -221,7 +227,7 @@ fn work(name: &[u8], job: Job) {
     let mut room = [0u8; 65536];
     let p = turns(name, job, &mut table, &mut buffer, &mut room);
     if p.status == READ {
-        last_line(name, p, &buffer, &mut room);
+        last_line(name, job.what, p, &buffer, &mut room);
     }
 }
 
