@@ -55,18 +55,18 @@ fn holds(octets: &[u8], n: usize, numbers: &[u32]) -> bool {
     same(&octets[..n], numbers) && untouched(&octets[n..])
 }
 
-// A case of the reader: own code, far code, records, the refusal; the message with its length before it; the fields as octets.
+// A case of the reader: own code, far code, records, the refusal and its place; the message with its length before it; the fields as octets.
 fn read_in(f: &[u32], message: &mut [u8], out: &mut [u8]) -> bool {
-    let rest = 6 + message.len();
+    let rest = 7 + message.len();
     if f.len() < rest {
         return false;
     }
-    put(message, &f[6..]);
-    let refusal = tup::tup_read(at(f, 1), at(f, 2), at(f, 3), message, out);
-    if refusal != at(f, 4) {
+    put(message, &f[7..]);
+    let answer = tup::tup_read(at(f, 1), at(f, 2), at(f, 3), message, out);
+    if answer % 256 != at(f, 4) as u64 || answer / 256 != at(f, 5) as u64 {
         return false;
     }
-    if refusal == 0 {
+    if answer == 0 {
         holds(out, 23, &f[rest..])
     } else {
         untouched(out)
@@ -76,7 +76,7 @@ fn read_in(f: &[u32], message: &mut [u8], out: &mut [u8]) -> bool {
 pub(crate) fn read_right(f: &[u32]) -> bool {
     let mut message = [0u8; 32];
     let mut out = [BEFORE; 24];
-    let n = size(at(f, 5));
+    let n = size(at(f, 6));
     if 32 < n {
         return false;
     }
