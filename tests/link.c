@@ -269,7 +269,8 @@ static void read_damaged(uint32_t times)
 enum { FORMATS = 2 + 2 * TUP_ADDRESS_MAX };
 static size_t good_message(unsigned format, uint8_t *octets)
 {
-    struct message m = {.own = 2, .far = 1, .count = 4, .cic = 3, .heading = format == 0 ? TUP_CLF : format == 1 ? TUP_ACM : TUP_IAM};
+    struct message m = {.own = 2, .far = 1, .count = 4, .cic = 3};
+    m.heading = format == 0 ? TUP_CLF : format == 1 ? TUP_ACM : TUP_IAM;
     if (m.heading == TUP_ACM)
         m.acm = 5;
     if (m.heading == TUP_IAM) {
@@ -285,7 +286,7 @@ static size_t good_message(unsigned format, uint8_t *octets)
                      LENGTHS) >> 8;
 }
 
-/* Every other value of every octet of every format; also into an output that is one octet short, which only a good message tells. */
+/* Every other value of every octet of every format; also into an output one octet short, which only a good message is told of. */
 static void read_each_octet_damaged(void)
 {
     group(1, 2, 4);

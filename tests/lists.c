@@ -1,6 +1,6 @@
-/* Writes files of messages into a directory, and beside each the text that reading it must print, by the reference: long random ones,
-   one cut at every place, every length of a message, and groups good and bad. The runner feeds them to the program `tup-messages`
-   and compares. */
+/* Writes files of messages into a directory, and beside each the text that reading it must print, by the reference: long random
+   ones, one cut at every place, every length of a message, and groups good and bad. The runner feeds them to the program
+   `tup-messages` and compares. */
 #include "harness.h"
 #include "reference.h"
 #include "saved.h"

@@ -1,6 +1,6 @@
 /* The rules once more, written from the project's documents 01 and 02 alone: events on a record, release ranks and the choice of a
-   circuit, messages on the link, the replay of a trace, the reading of a file of messages. docs/RULES.md has the same rules in words
-   and tables. */
+   circuit, messages on the link, the replay of a trace, the reading of a file of messages. docs/RULES.md has the same rules in
+   words and tables. */
 #include "reference.h"
 
 #include <stdlib.h>

@@ -1,5 +1,5 @@
-/* Files for a program that is tested, numbered in one directory, and beside each the text that the program must print for it, by the
-   reference. */
+/* Files for a program that is tested, numbered in one directory, and beside each the text that the program must print for it, by
+   the reference. */
 #ifndef SAVED_H
 #define SAVED_H
 
