@@ -1,18 +1,24 @@
 -- The state of a loop that makes a run of records: where it starts, what a record changes, and what it comes to.
 -- Assumes nothing.
-use mathlib.Core.Path.{_≡_, refl, ap, sym, _∙_}
+use mathlib.Core.Path.{_≡_, refl, ap, sym, subst, _∙_}
+use mathlib.Core.Bool.{cond}
 use mathlib.Core.List.{List, _++_, append-nil}
 use Prim.Native.Nat.{ℕ, _+_, _-_, _≤_, _<_}
 use native.Mathlib.Nat.{add-zero, zero-add, sub-zero}
 use native.Mathlib.Omega.{arith}
+use lib.Dec.{eqb}
 use lib.ListN.{length, take, drop, length-append, length-drop}
 use lib.Seq.{length-take-le, drop-drop}
+use borrow.Rule.Slice.PartMut.{midOf, putMid, same-len-mid}
 use Rattle.words.specs.Octets.{over}
+use Rattle.words.specs.Words.{largest}
 use Rattle.parts.specs.declared.Running.{Running}
+use Rattle.parts.specs.declared.Turn.{Turn}
 use Rattle.parts.specs.Whole.{Making, Lawful, onward}
 use Rattle.parts.specs.Feed.{Part, Share, noShare, share, stageAt, stops, behind, run}
-use Rattle.parts.specs.Way.{Ran}
-use Rattle.parts.proofs.Rooms.{fitsRoom, upTo, from}
+use Rattle.parts.specs.Way.{Lands, Ran}
+use Rattle.parts.proofs.Rooms.{fitsRoom, upTo, from, midAll, midLength, putBack, writtenIn}
+use Rattle.parts.proofs.Turns.{goesOnward}
 use Rattle.parts.proofs.Runs.{shared, runStops, runGoes, twice}
 
 -- where the loop of a run stands: `at` octets are taken and `out` are written, and the run from here is what is left of the whole
@@ -97,3 +103,55 @@ module _ {T : Type 0} {w : Making T} (law : Lawful w) {r₀ : Running} {t₀ : T
       writes = rw (wholeIs, roomIs, append-nil, outLength, u .behindOut);
       within = (u .atIn, u .outIn);
     }
+
+-- the same where a function is lent the part and the room from their places on, and lands on the share of what stands there
+module _ {T : Type 0} {w : Making T} (law : Lawful w) {r₀ : Running} {t₀ : T} {part room₀ : List ℕ} {r : Running} {t : T} {room : List ℕ} {at out : ℕ} (u : Sofar w r₀ t₀ part room₀ r t room at out)
+    {turn : Turn} {t' : T} {ys : List ℕ} (l : Lands (share w r t (midOf at (length part - at) part) (length (midOf out (length room - out) room))) (midOf out (length room - out) room) turn t' ys)
+    (k : length ys ≡ length (midOf out (length room - out) room)) where
+  abbrev had : Share T
+  had = share w r t (drop at part) (length room - out)
+
+  hadIn : share w r t (midOf at (length part - at) part) (length (midOf out (length room - out) room)) ≡ had
+  hadIn = rw (midAll part at, midLength room out)
+
+  landed : Lands had (midOf out (length room - out) room) turn t' ys
+  landed = subst (λ (h : Share T). Lands h (midOf out (length room - out) room) turn t' ys) hadIn l
+
+  abbrev back : List ℕ
+  back = putMid out (length room - out) room ys
+
+  backWrites : back ≡ take out room ++ over (had .text) (drop out room)
+  backWrites = putBack room out (had .text) ys (landed .writes)
+
+  backKeeps : length back ≡ length room
+  backKeeps = same-len-mid out (length room - out) room ys k
+
+  pub backKept : length back ≡ length room₀
+  backKept = backKeeps ∙ u .roomKept
+
+  takenIs : turn .taken ≡ had .taken
+  takenIs = ap (λ (q : Turn). q .taken) (landed .answers)
+
+  writtenIs : turn .written ≡ length (had .text)
+  writtenIs = ap (λ (q : Turn). q .written) (landed .answers)
+
+  pub backWithin : (at + turn .taken ≤ length part) × (out + turn .written ≤ length room)
+  backWithin =
+      (omega (arith, takenIs, u .atIn, shared law r t (drop at part) (length room - out) .fits, length-drop at part),
+      omega (arith, writtenIs, u .outIn, u .roomKept, writtenIn room out (had .text) ys (landed .writes) k))
+
+  module _ (p : turn .taken ≡ 0 → ⊥) where
+    some : had .taken ≡ 0 → ⊥
+    some z = p (takenIs ∙ z)
+
+    pub backOnward : cond (eqb (r .next) largest) r (onward r) ≡ onward r
+    backOnward = goesOnward (w .ahead r t (drop at part)) r t (length room - out) some
+
+    pub backNearer : length part - (at + turn .taken) < length part - at
+    backNearer = rw takenIs (nearer law u back backWrites backKeeps some)
+
+    pub backAgain : Sofar w r₀ t₀ part room₀ (onward r) t' back (at + turn .taken) (out + turn .written)
+    backAgain = rw (takenIs, writtenIs, landed .leaves) (again law u back backWrites backKeeps some)
+
+  pub backStopped : turn .taken ≡ 0 → Ran w r₀ t₀ part room₀ (record { taken = at; written = out; stage = stageAt (w .ahead r t (drop at part)) r }) t' back
+  backStopped z = rw (landed .leaves) (stopped law u back backWrites backKeeps (sym takenIs ∙ z))

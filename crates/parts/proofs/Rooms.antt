@@ -31,7 +31,7 @@ module _ (room x m : List ℕ) (out : ℕ) (h : out ≤ length room) where
 
 -- the room from a place on, as it is lent for one text, and the room with it back
 module _ (room : List ℕ) (out : ℕ) where
-  midAll : midOf out (length room - out) room ≡ drop out room
+  pub midAll : midOf out (length room - out) room ≡ drop out room
   midAll = take-all (length room - out) (drop out room) (rw length-drop (omega arith))
 
   pub midLength : length (midOf out (length room - out) room) ≡ length room - out
