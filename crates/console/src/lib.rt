@@ -74,6 +74,9 @@ fn write(job: Job, lines: &[u8]) -> bool {
 fn feed(what: u8, stage: Stage, table: &mut [u8], part: &[u8], room: &mut [u8]) -> Fed
     ensures { λ a. ⌜ (a .taken ≤ length (now (part .entry))) × (a .written ≤ length (now (room .entry))) ⌝ }
 {
+    if what == LISTING {
+        return messages::feed(stage, part, room);
+    }
     trace::feed(stage, table, part, room)
 }
 
