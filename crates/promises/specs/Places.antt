@@ -1,21 +1,32 @@
--- T-05: which octet of a refused message is to be looked at (docs/RULES.md, "Messages on the link"). The place of each refusal is in the table
--- `readerFaults` of `Demand1`; here stands what it means.
+-- T-05: which octet of a refused message is to be looked at (docs/RULES.md, "The place of a refusal"), and the list of messages that says so ("A
+-- file of messages"). The place of each refusal is in the table `readerFaults` of `Demand1`; here stands what it means.
 -- Assumes nothing.
 use mathlib.Core.Path.{_≡_, refl}
-use mathlib.Core.Bool.{true, false}
-use mathlib.Core.List.{List, [], _∷_}
+use mathlib.Core.Bool.{true, false, cond}
+use mathlib.Core.List.{List, [], _∷_, _++_}
 use mathlib.Core.Logic.{_⊎_}
-use Prim.Native.Nat.{ℕ, suc, _<_}
-use lib.Dec.{ltb}
-use lib.ListN.{length, getD, take}
+use Prim.Native.Nat.{ℕ, suc, _+_, _<_, _≤_}
+use lib.Dec.{eqb, ltb}
+use lib.ListN.{length, getD, take, drop}
 use Rattle.circuit.specs.Groups.{badGroup}
 use Rattle.formats.specs.Octets.{badCode, firstBad}
 use Rattle.formats.proofs.Signals.{noneBefore, firstFits}
+use Rattle.reader.specs.declared.Fields.{Fields}
 use Rattle.reader.specs.Reading.{fieldsOf}
 use Rattle.reader.specs.Stands.{CouldStand}
 use Rattle.reader.proofs.Faults.{lengthPlace}
 use Rattle.reader.proofs.Stands.{stands}
 use Rattle.reader.proofs.Spoils.{spoils}
+use Rattle.text.specs.Lines.{refusedLine, plainLine, acmLine, iamLine}
+use Rattle.parts.specs.declared.Running.{Running}
+use Rattle.parts.specs.Whole.{Ahead.Takes, Ahead.Partial, Ahead.AtEnd, Stateless, noState}
+use Rattle.parts.specs.Feed.{fed, isOver, lastLine}
+use Rattle.parts.specs.Schedule.{Move, Standing, before, after, whole-text, hasNext}
+use Rattle.parts.proofs.Schedule.{inParts, finished, overEarly}
+use Rattle.messages.specs.Listing.{readLine, messageLine, aheadIn, perMessage, listing}
+use Rattle.messages.specs.Cases.{messagesCase, messagesText}
+use Rattle.messages.proofs.Cases.{theCase}
+use Rattle.messages.proofs.Laws.{lawful}
 
 module _ (own far count : ℕ) (xs : List ℕ) where
   -- a length refusal names the length received
@@ -43,3 +54,41 @@ firstBadIs s l = (firstFits badCode s l, noneBefore badCode s)
 
 pub earlySt : (firstBad (1 ∷ 15 ∷ 2 ∷ []) ≡ 1) × (firstBad (1 ∷ 2 ∷ 15 ∷ 3 ∷ []) ≡ 2) × (firstBad (1 ∷ 2 ∷ 15 ∷ []) ≡ 3)
 earlySt = (refl, refl, refl)
+
+-- THE LIST OF MESSAGES
+
+-- the case of docs/RULES.md
+pub messagesListed : listing messagesCase ≡ messagesText
+messagesListed = theCase
+
+-- behind the group's record stand messages, each behind one octet that says how long it is: each has a line, by what the reader answers in the
+-- group; a file that ends within one is cut there, and where nothing more stands it is at its end
+pub messageAhead : (r : Running) (s : List ℕ) → aheadIn r s
+    ≡ cond (eqb (length s) 0) AtEnd
+    (cond (ltb (length s) (1 + getD s 0 0)) Partial
+    (Takes (1 + getD s 0 0) (messageLine (r .next) (fieldsOf (r .own .0) (r .far .0) (r .circuits) (take (getD s 0 0) (drop 1 s)))) noState))
+unfolding aheadIn
+messageAhead r s = refl
+
+-- a message that was refused has its refusal and its place in its line, any other its circuit, heading and fields
+pub messageLines : (ordinal : ℕ) (f : Fields) → messageLine ordinal f
+    ≡ cond (eqb (f .refusal) 0)
+    (cond (eqb (f .heading) 0x11) (iamLine ordinal (f .circuit .0) (f .heading) (f .category) (f .indicators) (take (f .count) (f .address)))
+    (cond (eqb (f .heading) 0x14) (acmLine ordinal (f .circuit .0) (f .heading) (f .acm)) (plainLine ordinal (f .circuit .0) (f .heading))))
+    (refusedLine ordinal (f .refusal) (f .place))
+unfolding messageLine readLine
+messageLines ordinal f = refl
+
+-- read and fed in parts of any sizes, into rooms of any sizes, the file gives the whole text (`fed` is what the contract of `messages::feed` cites)
+pub listInParts : (file : List ℕ) (ms : List Move) → whole-text perMessage (after perMessage (before noState file) ms) ≡ listing file
+listInParts = inParts lawful noState
+
+-- with the last line where all was read and nothing more can be taken, or where there is no good group
+pub listEnds : (file : List ℕ) (ms : List Move) (n : ℕ) → 132 ≤ n → (z : Standing Stateless) → z ≡ after perMessage (before noState file) ms
+    → z .unread ≡ [] → hasNext (z .stage) ≡ true → fed perMessage (z .stage) (z .state) (z .read) n .taken ≡ 0
+    → z .printed ++ lastLine (fed perMessage (z .stage) (z .state) (z .read) n .stage) (z .read) ≡ listing file
+listEnds = finished lawful noState
+
+pub listEndsEarly : (file : List ℕ) (ms : List Move) (z : Standing Stateless) → z ≡ after perMessage (before noState file) ms → isOver (z .stage) ≡ true
+    → z .printed ++ lastLine (z .stage) (z .read) ≡ listing file
+listEndsEarly = overEarly lawful noState
