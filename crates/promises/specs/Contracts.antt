@@ -100,6 +100,7 @@ use Rattle.parts.proofs.is_over.Reads as isOver
 use Rattle.parts.proofs.keep.Reads as keep
 use Rattle.trace.proofs.feed.Reads as feed
 use Rattle.trace.proofs.table_octets.Reads as traceTableOctets
+use Rattle.messages.proofs.feed.Reads as feedMessages
 
 -- the answer is determined
 abbrev pub Once : {K : Type 0} {A X E : K → Type 0} → ((κs : K) → A κs → X κs → E κs → Type 0) → Type 0
@@ -363,6 +364,10 @@ ofTrace = (
   λ κs a x y s t h k. once (h .1 .1 .0) (k .1 .1 .0),
   λ κs a x y s t h k. once (h .0) (k .0),
 )
+
+-- the room of a part
+pub ofMessages : Once feedMessages.Learnt × Leaves (λ κs s. now (s .1 .1 .0)) feedMessages.Learnt
+ofMessages = (λ κs a x y s t h k. once (h .0) (k .0), λ κs a x y s t h k. once (h .1 .0) (k .1 .0))
 
 -- THE TABLE OF CALLS, AND THE ENTRIES FOR C
 

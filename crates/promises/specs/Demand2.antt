@@ -58,7 +58,7 @@ use Rattle.records.specs.declared.Item.the-variants.{Event as anEvent, NoEvent,
 use Rattle.records.specs.Records as records
 use Rattle.parts.specs.declared.Running.{Running}
 use Rattle.parts.specs.declared.Stage.the-variants.{Start, Bad, Runs, Cut}
-use Rattle.parts.specs.Whole.{Ahead.Takes, Ahead.NoRecord, Ahead.Partial, Ahead.AtEnd, Making, Lawful, textAt, lines, whole}
+use Rattle.parts.specs.Whole.{Ahead.Takes, Ahead.NoRecord, Ahead.Partial, Ahead.AtEnd, Making, Lawful, Stateless, noState, textAt, lines, whole}
 use Rattle.parts.specs.Feed.{fed, isOver, lastLine}
 use Rattle.parts.specs.Schedule.{textFrom, stateAfter, Move, Move.Reads, Move.Feeds, Standing, before, moved, after, whole-text, hasNext}
 use Rattle.parts.proofs.Schedule.{inParts, finished, overEarly}
@@ -66,6 +66,10 @@ use Rattle.trace.specs.Replay.{happens, eventText, aheadOf, replaying, replay}
 use Rattle.trace.specs.Cases.{wholeCase, wholeText}
 use Rattle.trace.proofs.Cases.{theWholeCase}
 use Rattle.trace.proofs.Events.{lawful}
+use Rattle.messages.specs.Listing.{messageLine, aheadIn, perMessage, listing}
+use Rattle.messages.specs.Cases.{fileCase, fileText}
+use Rattle.messages.proofs.Cases.{theFileCase}
+use Rattle.messages.proofs.Laws as list
 
 -- THE CASES P1 TO P10
 
@@ -359,6 +363,38 @@ pub itemTexts : (taken : ℕ) (text table : List ℕ) (more : ℕ → List ℕ �
     ≡ (text ++ more taken table) ∷ cutLine next ∷ cutLine next ∷ endLine (next - 1) ∷ []
 unfolding textAt
 itemTexts taken text table more next = refl
+
+-- A FILE OF MESSAGES
+
+-- the case, octet by octet
+pub fileCasePrints : listing fileCase ≡ fileText
+fileCasePrints = theFileCase
+
+-- what stands at a place of the file: nothing more; a message that is cut short; or one that is there whole behind its octet of length, whose line
+-- is made of what the reader answers in the group
+pub messagesAhead : (r : Running) (s : List ℕ)
+    → let n = getD s 0 0 in
+    aheadIn r s
+    ≡ cond (eqb (length s) 0) AtEnd
+    (cond (ltb (length s) (1 + n)) Partial
+    (Takes (1 + n) (messageLine (r .next) (fieldsOf (r .own .0) (r .far .0) (r .circuits) (take n (drop 1 s)))) noState))
+unfolding aheadIn
+messagesAhead r s = refl
+
+-- read and fed in parts of any sizes, into rooms of any sizes, as a trace is (`fed` is what the contract of `messages::feed` cites)
+pub partsListTheWhole : (file : List ℕ) (ms : List Move) → whole-text perMessage (after perMessage (before noState file) ms) ≡ listing file
+partsListTheWhole = list.listedInParts
+
+pub listEnds : (file : List ℕ) (ms : List Move) (n : ℕ) → 132 ≤ n → (z : Standing Stateless) → z ≡ after perMessage (before noState file) ms
+    → z .unread ≡ [] → hasNext (z .stage) ≡ true → fed perMessage (z .stage) noState (z .read) n .taken ≡ 0
+    → z .printed ++ lastLine (fed perMessage (z .stage) noState (z .read) n .stage) (z .read) ≡ listing file
+listEnds = finished list.lawful noState
+
+pub listEndsEarly : (file : List ℕ) (ms : List Move) (z : Standing Stateless) → z ≡ after perMessage (before noState file) ms → isOver (z .stage) ≡ true
+    → z .printed ++ lastLine (z .stage) (z .read) ≡ listing file
+listEndsEarly = overEarly list.lawful noState
+
+-- NUMBERS AS TEXT
 
 -- numbers are printed in decimal with no leading zeros: the digits stand for the number, and the first is not 0, but in 0 itself
 pub decimalIsTheNumber : (n : ℕ) → valueFrom 0 (decimal n) ≡ n
