@@ -1,6 +1,6 @@
--- A file of messages can be fed in parts: what stands ahead in it, by cases, and the laws of that.
+-- A file of messages can be fed in parts: what stands ahead in it, by cases, the laws of that, and what follows from them.
 -- Assumes nothing.
-use mathlib.Core.Path.{_≡_, refl, ap, sym, _∙_}
+use mathlib.Core.Path.{_≡_, sym, _∙_}
 use mathlib.Core.Bool.{true, false}
 use mathlib.Core.List.{List, _++_}
 use Prim.Native.Nat.{ℕ, _+_, _≤_, _<_}
@@ -13,8 +13,10 @@ use Rattle.text.proofs.Numbers.{byTest}
 use Rattle.records.specs.Records.{octet}
 use Rattle.records.proofs.Items.{never, sameOctet}
 use Rattle.parts.specs.declared.Running.{Running}
-use Rattle.parts.specs.Whole.{Ahead, Ahead.Takes, Ahead.Partial, Ahead.AtEnd, Lawful, Stateless, noState, settled}
-use Rattle.messages.specs.Listing.{messageLine, messageIn, fieldsAt, aheadIn, perMessage}
+use Rattle.parts.specs.Whole.{Ahead.Takes, Ahead.Partial, Ahead.AtEnd, Lawful, Stateless, noState, settled}
+use Rattle.parts.specs.Schedule.{Move, before, after, whole-text}
+use Rattle.parts.proofs.Schedule.{inParts}
+use Rattle.messages.specs.Listing.{messageLine, messageIn, fieldsAt, aheadIn, perMessage, listing}
 
 module _ (r : Running) (s : List ℕ) where
   pub atEnd : length s ≡ 0 → aheadIn r s ≡ AtEnd

@@ -3,11 +3,11 @@
 use mathlib.Core.Path.{_≡_, refl, ap, subst, _∙_}
 use mathlib.Core.Bool.{Bool, true, false, cond}
 use mathlib.Core.List.{List, [], _∷_}
-use Prim.Native.Nat.{ℕ, _+_, _-_, _≤_, _<_}
+use Prim.Native.Nat.{ℕ, _+_, _-_, _≤_}
 use native.Mathlib.Omega.{arith}
 use lib.Dec.{ltb}
 use lib.ListN.{length, take, drop, length-append, length-drop}
-use borrow.Author.Tests.{ltb-true, ltb-false, le-ltb}
+use borrow.Author.Tests.{ltb-false, le-ltb}
 use Rattle.words.specs.Octets.{numberOf, over}
 use Rattle.formats.specs.Format.{COUNT, contentIn}
 use Rattle.formats.specs.Messages.{formatOf, hasSignals}
@@ -25,7 +25,7 @@ use Rattle.parts.specs.declared.Stage.the-variants.{Runs}
 use Rattle.parts.specs.Whole.{noState}
 use Rattle.parts.specs.Feed.{noShare, shareOf, stageAt}
 use Rattle.parts.specs.Way.{Lands}
-use Rattle.messages.specs.Listing.{messageLine, messageIn, fieldsAt, aheadIn}
+use Rattle.messages.specs.Listing.{messageLine, fieldsAt, aheadIn}
 use Rattle.messages.specs.Way.{wholeOctets}
 use Rattle.messages.proofs.Laws.{byMessage, isWhole}
 

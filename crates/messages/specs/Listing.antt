@@ -1,4 +1,5 @@
--- What a file of messages is made into, as octets: for each message a line with what it says, or why it is refused and where it is wrong.
+-- What is printed for a file of messages (docs/RULES.md, "A file of messages"), as octets: for each message a line with what it says, or why it is
+-- refused and where it is wrong.
 -- How line follows line, and the first and the last, is the same for every file that is made into text: `parts/specs/Whole`.
 -- Assumes nothing.
 use mathlib.Core.Bool.{cond}

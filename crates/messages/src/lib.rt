@@ -1,5 +1,5 @@
-// A file of messages as they arrive on a link, made into lines: it is fed in parts, and a line for each message is written into lent
-// room. The file is a group's record and then the messages, each behind an octet that gives its length.
+// A file of messages as they arrived on a link (docs/RULES.md, "A file of messages"), made into lines: it is fed in parts, and a line
+// for each message is written into lent room.
 use parts::Fed;
 use parts::Running;
 use parts::Stage;

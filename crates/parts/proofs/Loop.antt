@@ -136,9 +136,10 @@ module _ {T : Type 0} {w : Making T} (law : Lawful w) {r₀ : Running} {t₀ : T
   writtenIs = ap (λ (q : Turn). q .written) (landed .answers)
 
   pub backWithin : (at + turn .taken ≤ length part) × (out + turn .written ≤ length room)
-  backWithin =
-      (omega (arith, takenIs, u .atIn, shared law r t (drop at part) (length room - out) .fits, length-drop at part),
-      omega (arith, writtenIs, u .outIn, u .roomKept, writtenIn room out (had .text) ys (landed .writes) k))
+  backWithin = (
+    omega (arith, takenIs, u .atIn, shared law r t (drop at part) (length room - out) .fits, length-drop at part),
+    omega (arith, writtenIs, u .outIn, u .roomKept, writtenIn room out (had .text) ys (landed .writes) k),
+  )
 
   module _ (p : turn .taken ≡ 0 → ⊥) where
     some : had .taken ≡ 0 → ⊥

@@ -68,6 +68,7 @@ use Rattle.step.proofs.step.Reads as step
 use Rattle.group.proofs.step.Reads as groupStep
 use Rattle.select.proofs.select.Reads as select
 use Rattle.formats.proofs.fixed_length.Reads as fixedLength
+use Rattle.formats.proofs.first_bad.Reads as firstBad
 use Rattle.formats.proofs.bad_codes.Reads as badCodes
 use Rattle.reader.proofs.read_fields.Reads as readFields
 use Rattle.reader.proofs.read.Reads as read
@@ -100,6 +101,7 @@ use Rattle.parts.proofs.is_over.Reads as isOver
 use Rattle.parts.proofs.keep.Reads as keep
 use Rattle.trace.proofs.feed.Reads as feed
 use Rattle.trace.proofs.table_octets.Reads as traceTableOctets
+use Rattle.messages.proofs.feed.Reads as feedMessages
 
 -- the answer is determined
 abbrev pub Once : {K : Type 0} {A X E : K → Type 0} → ((κs : K) → A κs → X κs → E κs → Type 0) → Type 0
@@ -250,8 +252,8 @@ ofGroup = (λ κs a x y s t h k. once (h .0) (k .0), λ κs a x y s t h k. once 
 pub ofSelect : Once select.Learnt
 ofSelect κs a x y s t = once
 
-pub ofFormats : Once fixedLength.Learnt × Once badCodes.Learnt
-ofFormats = (λ κs a x y s t. once, λ κs a x y s t. once)
+pub ofFormats : Once fixedLength.Learnt × Once firstBad.Learnt × Once badCodes.Learnt
+ofFormats = (λ κs a x y s t. once, λ κs a x y s t. once, λ κs a x y s t. once)
 
 pub ofReader : Once readFields.Learnt × Once read.Learnt
 ofReader = (λ κs a x y s t. once, λ κs a x y s t. once)
@@ -363,6 +365,10 @@ ofTrace = (
   λ κs a x y s t h k. once (h .1 .1 .0) (k .1 .1 .0),
   λ κs a x y s t h k. once (h .0) (k .0),
 )
+
+-- the room of a part
+pub ofMessages : Once feedMessages.Learnt × Leaves (λ κs s. now (s .1 .1 .0)) feedMessages.Learnt
+ofMessages = (λ κs a x y s t h k. once (h .0) (k .0), λ κs a x y s t h k. once (h .1 .0) (k .1 .0))
 
 -- THE TABLE OF CALLS, AND THE ENTRIES FOR C
 

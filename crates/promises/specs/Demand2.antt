@@ -360,6 +360,8 @@ pub itemTexts : (taken : ℕ) (text table : List ℕ) (more : ℕ → List ℕ �
 unfolding textAt
 itemTexts taken text table more next = refl
 
+-- NUMBERS AS TEXT
+
 -- numbers are printed in decimal with no leading zeros: the digits stand for the number, and the first is not 0, but in 0 itself
 pub decimalIsTheNumber : (n : ℕ) → valueFrom 0 (decimal n) ≡ n
 decimalIsTheNumber = decimalValue
