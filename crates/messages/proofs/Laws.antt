@@ -14,9 +14,7 @@ use Rattle.records.specs.Records.{octet}
 use Rattle.records.proofs.Items.{never, sameOctet}
 use Rattle.parts.specs.declared.Running.{Running}
 use Rattle.parts.specs.Whole.{Ahead.Takes, Ahead.Partial, Ahead.AtEnd, Lawful, Stateless, noState, settled}
-use Rattle.parts.specs.Schedule.{Move, before, after, whole-text}
-use Rattle.parts.proofs.Schedule.{inParts}
-use Rattle.messages.specs.Listing.{messageLine, messageIn, fieldsAt, aheadIn, perMessage, listing}
+use Rattle.messages.specs.Listing.{messageLine, messageIn, fieldsAt, aheadIn, perMessage}
 
 module _ (r : Running) (s : List ℕ) where
   pub atEnd : length s ≡ 0 → aheadIn r s ≡ AtEnd
