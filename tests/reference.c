@@ -634,7 +634,8 @@ static size_t event_octets(unsigned kind)
     return kind == 1 || kind == 2 ? 5 : kind == 3 ? 4 : 0;
 }
 
-static char *put_number(char *at, uint64_t number)
+/* A number and the character behind it. */
+static char *put_number(char *at, uint64_t number, char behind)
 {
     char digits[20];
     size_t count = 0;
@@ -644,7 +645,7 @@ static char *put_number(char *at, uint64_t number)
     } while (number != 0);
     while (count > 0)
         *at++ = digits[--count];
-    *at++ = ' ';
+    *at++ = behind;
     return at;
 }
 
@@ -657,17 +658,17 @@ static char *put_heading(char *at, unsigned heading)
 
 static void put_line(uint64_t ordinal, uint32_t cic, answer given, FILE *out)
 {
-    char line[64], *at = put_number(line, ordinal);
-    at = put_number(at, cic);
-    at = put_number(at, given & 255);
+    char line[64], *at = put_number(line, ordinal, ' ');
+    at = put_number(at, cic, ' ');
+    at = put_number(at, given & 255, ' ');
     if ((given & 255) == 2) {
         memcpy(at, "- - ", 4);
         at += 4;
     } else {
-        at = put_number(at, given >> 16 & 255);
-        at = put_number(at, given >> 24 & 255);
+        at = put_number(at, given >> 16 & 255, ' ');
+        at = put_number(at, given >> 24 & 255, ' ');
     }
-    at = put_number(at, given >> 8 & 255);
+    at = put_number(at, given >> 8 & 255, ' ');
     unsigned first = given >> 32 & 255, second = given >> 40 & 255;
     if (first == 0)
         *at++ = '-';
@@ -718,39 +719,52 @@ void ref_replay(const uint8_t *trace, size_t len, FILE *out)
 
 /* A file of messages. */
 
-static void put_message_fields(const uint8_t *fields, FILE *out)
+static char *put_message_fields(char *at, const uint8_t *fields)
 {
-    fprintf(out, "%u %02x ", two(fields), fields[2]);
+    if (fields[2] == ACM)
+        return put_number(at, fields[3], '\n');
     if (fields[2] == IAM) {
-        fprintf(out, "%u,%u,", fields[4], two(fields + 5));
+        at = put_number(at, fields[4], ',');
+        at = put_number(at, two(fields + 5), ',');
         for (unsigned i = 0; i < fields[7]; i++)
-            fprintf(out, "%x", fields[8 + i]);
-    } else if (fields[2] == ACM)
-        fprintf(out, "%u", fields[3]);
-    else
-        fputc('-', out);
+            *at++ = "0123456789abcdef"[fields[8 + i]];
+    } else
+        *at++ = '-';
+    *at++ = '\n';
+    return at;
+}
+
+static void put_message(uint64_t ordinal, uint64_t answer, const uint8_t *fields, FILE *out)
+{
+    char line[96], *at = put_number(line, ordinal, ' ');
+    at = put_number(at, answer & 255, ' ');
+    at = put_number(at, answer >> 8, ' ');
+    if (answer != 0) {
+        memcpy(at, "- - -\n", 6);
+        at += 6;
+    } else {
+        at = put_heading(put_number(at, two(fields), ' '), fields[2]);
+        *at++ = ' ';
+        at = put_message_fields(at, fields);
+    }
+    fwrite(line, 1, (size_t)(at - line), out);
 }
 
 void ref_messages(const uint8_t *file, size_t len, FILE *out)
 {
     if (!put_group(file, len, out))
         return;
-    unsigned long long ordinal = 1;
+    uint64_t ordinal = 1;
     size_t at = GROUP_OCTETS;
     for (; at < len && len - at > file[at]; at += 1 + (size_t)file[at], ordinal++) {
         uint8_t fields[REF_MESSAGE_OCTETS];
         uint64_t answer = ref_read(two(file + 1), two(file + 3), two(file + 5), file + at + 1, file[at], fields, sizeof fields);
-        fprintf(out, "%llu %u %llu ", ordinal, (unsigned)(answer & 255), (unsigned long long)(answer >> 8));
-        if (answer == 0)
-            put_message_fields(fields, out);
-        else
-            fputs("- - -", out);
-        fputc('\n', out);
+        put_message(ordinal, answer, fields, out);
     }
     if (at < len)
-        fprintf(out, "cut %llu\n", ordinal);
+        fprintf(out, "cut %llu\n", (unsigned long long)ordinal);
     else
-        fprintf(out, "end %llu\n", ordinal - 1);
+        fprintf(out, "end %llu\n", (unsigned long long)(ordinal - 1));
 }
 
 int ref_main(void (*print)(const uint8_t *file, size_t len, FILE *out))

@@ -81,7 +81,14 @@ fn feed(what: u8, stage: Stage, table: &mut [u8], part: &[u8], room: &mut [u8]) 
 }
 
 // Takes what can be taken of the octets that are there, and writes the lines.
-fn take(name: &[u8], job: Job, p: Progress, table: &mut [u8], buffer: &[u8], room: &mut [u8]) -> Progress {
+fn take(
+    name: &[u8],
+    job: Job,
+    p: Progress,
+    table: &mut [u8],
+    buffer: &[u8],
+    room: &mut [u8],
+) -> Progress {
     let stage = p.stage;
     let at = p.at;
     let have = p.have;
@@ -112,7 +119,14 @@ fn take(name: &[u8], job: Job, p: Progress, table: &mut [u8], buffer: &[u8], roo
 }
 
 // Reads more behind what is not taken yet. A buffer that is full of what cannot be taken is that of a text with no further ordinal.
-fn read(name: &[u8], input: i32, stage: Stage, at: usize, have: usize, buffer: &mut [u8]) -> Progress {
+fn read(
+    name: &[u8],
+    input: i32,
+    stage: Stage,
+    at: usize,
+    have: usize,
+    buffer: &mut [u8],
+) -> Progress {
     let kept = parts::keep(buffer, at, have);
     if buffer.len() <= kept {
         return refused(name, stage, b": too many records\n");
@@ -131,7 +145,14 @@ fn read(name: &[u8], input: i32, stage: Stage, at: usize, have: usize, buffer: &
     }
 }
 
-fn turn(name: &[u8], job: Job, p: Progress, table: &mut [u8], buffer: &mut [u8], room: &mut [u8]) -> Progress {
+fn turn(
+    name: &[u8],
+    job: Job,
+    p: Progress,
+    table: &mut [u8],
+    buffer: &mut [u8],
+    room: &mut [u8],
+) -> Progress {
     let q = take(name, job, p, table, buffer, room);
     if q.status != GOING || p.at < q.at {
         return q;

@@ -212,15 +212,35 @@ placesByLetter own far count xs room =
     like (intoFaults own far count xs room) (readerFaults own far count xs room) (
       refl,
       (λ e. refl),
-      (refl, (λ e. refl), (refl, (λ e. refl), (refl, (λ e. refl), (refl, (λ e. refl), (
-        ap (λ (b : Bool). b && eqb (countIn xs) 0) iam,
-        (λ e. countOctet h (bothHold (hasSignals h) e .0)),
-        (countedLength h (length xs) (countIn xs), (λ e. refl), (
-          ap (λ (b : Bool). b && badCodes (addressIn xs)) iam,
-          (λ e. signalOctetsOf h (bothHold (hasSignals h) e .0) (firstBad (addressIn xs))),
-          (refl, (λ e. refl), (refl, (λ e. refl), tt)),
-        )),
-      ))))),
+      (
+        refl,
+        (λ e. refl),
+        (
+          refl,
+          (λ e. refl),
+          (
+            refl,
+            (λ e. refl),
+            (
+              refl,
+              (λ e. refl),
+              (
+                ap (λ (b : Bool). b && eqb (countIn xs) 0) iam,
+                (λ e. countOctet h (bothHold (hasSignals h) e .0)),
+                (
+                  countedLength h (length xs) (countIn xs),
+                  (λ e. refl),
+                  (
+                    ap (λ (b : Bool). b && badCodes (addressIn xs)) iam,
+                    (λ e. signalOctetsOf h (bothHold (hasSignals h) e .0) (firstBad (addressIn xs))),
+                    (refl, (λ e. refl), (refl, (λ e. refl), tt)),
+                  ),
+                ),
+              ),
+            ),
+          ),
+        ),
+      ),
     )
 
 -- the number that is answered is the refusal and 256 times its place, at most 2^56 - 1

@@ -65,8 +65,8 @@ module _ (own far theirs : ℕ) (xs ys : List ℕ) (octets : (i : ℕ) → getD 
         let m : firstBad (address xs octets) < wordIn ys / 4096 = subst (λ (n : ℕ). firstBad (address xs octets) < n) (sym sameWord) k in
         subst T (sym (firstFits badCode (address xs octets) l)
         ∙ ap₂ (λ (c n : ℕ). badCode c (ltb (suc (firstBad (address xs octets))) n))
-            (its xs octets i k ∙ ap (λ (o : ℕ). cond (eqb (i % 2) 0) (o % 16) (o / 16)) (sym (alike (9 + i / 2) (omega arith))) ∙ sym (its ys octets′ i m))
-            (long xs octets ∙ sym sameWord ∙ sym (long ys octets′))
+        (its xs octets i k ∙ ap (λ (o : ℕ). cond (eqb (i % 2) 0) (o % 16) (o / 16)) (sym (alike (9 + i / 2) (omega arith))) ∙ sym (its ys octets′ i m))
+        (long xs octets ∙ sym sameWord ∙ sym (long ys octets′))
         ∙ eachPasses badCode (address ys octets′) ordered i (subst (λ (n : ℕ). i < n) (sym (long ys octets′)) m)) tt
 
 module _ (own far records : ℕ) (xs : List ℕ) (octets : (i : ℕ) → getD xs i 0 < 256) where
@@ -84,16 +84,28 @@ module _ (own far records : ℕ) (xs : List ℕ) (octets : (i : ℕ) → getD xs
   unfolding fieldsOf
   each = cases Spoils (readFaults own far records xs) (fieldsIn (headingIn xs) xs) (
     (λ e. other),
-    (λ e. ((λ e. other), (λ e. ((λ e. other), (λ e. (
-      (λ e n theirs ys o same ok. notUnlisted own far theirs xs ys octets o 5 same ok (omega arith) e),
-      (λ e. ((λ e. other), (λ e. (
-        (λ e n theirs ys o same ok. notEmpty own far theirs xs ys octets o 8 (subst (Begins ys) (countOctet (headingIn xs) (bothHold (hasSignals (headingIn xs)) e .0)) same) ok (omega arith) (iamIn xs (bothHold (hasSignals (headingIn xs)) e .0)) (bothHold (hasSignals 0x11) (subst (λ (h : ℕ). (hasSignals h && eqb (fieldBy (formatOf h) COUNT xs) 0) ≡ true) (iamIn xs (bothHold (hasSignals (headingIn xs)) e .0)) e) .1)),
-        (λ e. ((λ e. other), (λ e. (
-          (λ e n theirs ys o same ok. notSpoilt own far theirs xs ys octets o (9 + firstBad (address xs octets) / 2) (subst (Begins ys) (itsOctet e) same) ok (omega arith) (iamIn xs (bothHold (hasSignals (headingIn xs)) e .0)) refl (bothHold (hasSignals 0x11) (subst (λ (h : ℕ). (hasSignals h && badCodes (signalsBy (formatOf h) xs)) ≡ true) (iamIn xs (bothHold (hasSignals (headingIn xs)) e .0)) e) .1)),
-          (λ e. ((λ e. other), (λ e. other))),
-        )))),
-      )))),
-    )))))),
+    (λ e. (
+      (λ e. other),
+      (λ e. (
+        (λ e. other),
+        (λ e. (
+          (λ e n theirs ys o same ok. notUnlisted own far theirs xs ys octets o 5 same ok (omega arith) e),
+          (λ e. (
+            (λ e. other),
+            (λ e. (
+              (λ e n theirs ys o same ok. notEmpty own far theirs xs ys octets o 8 (subst (Begins ys) (countOctet (headingIn xs) (bothHold (hasSignals (headingIn xs)) e .0)) same) ok (omega arith) (iamIn xs (bothHold (hasSignals (headingIn xs)) e .0)) (bothHold (hasSignals 0x11) (subst (λ (h : ℕ). (hasSignals h && eqb (fieldBy (formatOf h) COUNT xs) 0) ≡ true) (iamIn xs (bothHold (hasSignals (headingIn xs)) e .0)) e) .1)),
+              (λ e. (
+                (λ e. other),
+                (λ e. (
+                  (λ e n theirs ys o same ok. notSpoilt own far theirs xs ys octets o (9 + firstBad (address xs octets) / 2) (subst (Begins ys) (itsOctet e) same) ok (omega arith) (iamIn xs (bothHold (hasSignals (headingIn xs)) e .0)) refl (bothHold (hasSignals 0x11) (subst (λ (h : ℕ). (hasSignals h && badCodes (signalsBy (formatOf h) xs)) ≡ true) (iamIn xs (bothHold (hasSignals (headingIn xs)) e .0)) e) .1)),
+                  (λ e. ((λ e. other), (λ e. other))),
+                )),
+              )),
+            )),
+          )),
+        )),
+      )),
+    )),
   )
     where
       Begins : List ℕ → ℕ → Type 0
