@@ -443,22 +443,13 @@ static const struct read_case {
     {"no output, and a spare code", "0180003000110a0340213e", 4, 0, 10, 10, {0}},
 };
 
-static size_t from_text(const char *text, uint8_t *octets)
-{
-    size_t len = 0;
-    unsigned octet;
-    for (; sscanf(text, "%2x", &octet) == 1; text += 2)
-        octets[len++] = (uint8_t)octet;
-    return len;
-}
-
 static void run_read_case(reader read, const struct read_case *c)
 {
     uint8_t octets[TUP_MESSAGE_MAX + 1], out[TUP_MESSAGE_OCTETS + 1], kept[TUP_MESSAGE_OCTETS + 1];
     case_now = c->name;
     pattern(out, sizeof out);
     pattern(kept, sizeof kept);
-    size_t len = from_text(c->text, octets);
+    size_t len = octets_in(c->text, octets);
     uint64_t answer = read(1, 2, c->count, octets, len, out, c->out_len);
     expect("the refusal", tup_read_refusal(answer), c->refusal);
     expect("the place", tup_read_place(answer), c->place);
@@ -478,7 +469,7 @@ static void run_read_groups(reader read)
     case_now = "a message read in no group";
     for (size_t i = 0; i < sizeof groups / sizeof *groups; i++)
         for (size_t k = 0; k < sizeof texts / sizeof *texts; k++) {
-            size_t len = from_text(texts[k], octets);
+            size_t len = octets_in(texts[k], octets);
             expect("the answer", read(groups[i][0], groups[i][1], groups[i][2], octets, len, out, sizeof out), 1);
         }
 }
@@ -524,7 +515,7 @@ static void run_write_case(writer write, const struct write_case *c)
     case_now = c->name;
     pattern(out, sizeof out);
     pattern(kept, sizeof kept);
-    size_t len = from_text(c->text, kept);
+    size_t len = octets_in(c->text, kept);
     uint32_t answer = write(2, 1, c->count, c->cic, c->heading, c->acm, c->category, c->indicators, c->address, c->address_len, out,
                             c->out_len);
     expect("the refusal", tup_written_refusal(answer), c->refusal);

@@ -121,6 +121,15 @@ int chance(uint32_t in)
     return draw(in) == 0;
 }
 
+size_t octets_in(const char *text, uint8_t *octets)
+{
+    size_t len = 0;
+    unsigned octet;
+    for (; sscanf(text, "%2x", &octet) == 1; text += 2)
+        octets[len++] = (uint8_t)octet;
+    return len;
+}
+
 uint32_t draw_detail(uint32_t command)
 {
     switch (command) {

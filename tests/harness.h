@@ -34,6 +34,9 @@ uint64_t draw64(void);
 uint32_t draw(uint32_t below);
 int chance(uint32_t in);
 
+/* The octets that a text has, two hexadecimal digits each, and how many they are. */
+size_t octets_in(const char *text, uint8_t *octets);
+
 /* A detail that the command may have. */
 uint32_t draw_detail(uint32_t command);
 

@@ -159,15 +159,6 @@ static void read_name(const char *line)
     strcpy(names[i][octet_of(number)], name);
 }
 
-static size_t octets_of(const char *text, uint8_t *octets)
-{
-    size_t len = 0;
-    unsigned octet;
-    for (; sscanf(text, "%2x", &octet) == 1; text += 2)
-        octets[len++] = (uint8_t)octet;
-    return len;
-}
-
 /* A message that the page shows is read as the page says, at the exchange with code 1 from the one with code 2. */
 static void read_message(const char *line)
 {
@@ -176,7 +167,7 @@ static void read_message(const char *line)
     unsigned at, circuits, refusal, place;
     if (sscanf(line, "read %u %127s %u %u %u", &at, text, &circuits, &refusal, &place) != 5)
         differ("no message in the plain form: %s", line);
-    uint64_t got = tup_read(1, 2, circuits, octets, octets_of(text, octets), fields, sizeof fields);
+    uint64_t got = tup_read(1, 2, circuits, octets, octets_in(text, octets), fields, sizeof fields);
     if (tup_read_refusal(got) != refusal || tup_read_place(got) != place)
         differ("the message in line %u of the page has refusal %u and place %llu", at, tup_read_refusal(got),
                (unsigned long long)tup_read_place(got));

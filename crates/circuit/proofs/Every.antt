@@ -1,6 +1,6 @@
 -- Tests that are computed: from the test at every point of a finite range to the rule at each point, and back.
 -- Assumes nothing.
-use mathlib.Core.Path.{_≡_, refl}
+use mathlib.Core.Path.{_≡_, refl, sym, subst}
 use mathlib.Core.Bool.{Bool, true, false, cond, _&&_, not}
 use Prim.Native.Nat.{ℕ, zero, suc, _<_, _≤_}
 use native.Mathlib.Nat.{le-of-suc-le-suc, not-suc-le-zero}
@@ -21,6 +21,10 @@ right false b t = absurd t
 pub both : (a b : Bool) → T a → T b → T (a && b)
 both true b s t = t
 both false b s t = absurd s
+
+pub bothHold : (a : Bool) {b : Bool} → (a && b) ≡ true → (a ≡ true) × (b ≡ true)
+bothHold true e = (refl, e)
+bothHold false e = absurd (subst T (sym e) tt)
 
 pub isTrue : (b : Bool) → T b → b ≡ true
 isTrue true t = refl

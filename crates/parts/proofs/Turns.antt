@@ -1,16 +1,16 @@
 -- One record's turn: what it takes, and that the next ordinal follows where it takes something.
 -- Assumes nothing.
 use mathlib.Core.Path.{_≡_, refl}
-use mathlib.Core.Bool.{Bool, true, false, cond, _&&_}
+use mathlib.Core.Bool.{true, false, cond}
 use mathlib.Core.List.{List}
 use Prim.Native.Nat.{ℕ, _≤_, _<_}
 use native.Mathlib.Omega.{arith}
-use lib.Dec.{eqb, leb, ltb}
+use lib.Dec.{eqb, leb}
 use borrow.Author.Tests.{leb-true, ltb-true, ne-eqb}
+use Rattle.circuit.proofs.Every.{bothHold}
 use Rattle.words.specs.Words.{largest}
 use Rattle.text.proofs.Numbers.{byTest}
 use Rattle.text.specs.Writing.{lineRoom}
-use Rattle.records.proofs.Items.{never}
 use Rattle.parts.specs.declared.Running.{Running}
 use Rattle.parts.specs.Whole.{Ahead, Takes, NoRecord, Partial, AtEnd, onward}
 use Rattle.parts.specs.Feed.{noShare, mayGo, shareOf, shareAt}
@@ -23,16 +23,12 @@ byAhead NoRecord taken none short ended = none refl
 byAhead Partial taken none short ended = short refl
 byAhead AtEnd taken none short ended = ended refl
 
-both : (a b : Bool) → (a && b) ≡ true → (a ≡ true) × (b ≡ true)
-both true b e = (refl, e)
-both false b e = never cc
-
 module _ (r : Running) (n : ℕ) (e : mayGo r n ≡ true) where
   pub roomThere : lineRoom ≤ n
-  roomThere = leb-true _ _ (both (leb lineRoom n) (ltb (r .next) largest) e .0)
+  roomThere = leb-true _ _ (bothHold (leb lineRoom n) e .0)
 
   ordinalThere : r .next < largest
-  ordinalThere = ltb-true _ _ (both (leb lineRoom n) (ltb (r .next) largest) e .1)
+  ordinalThere = ltb-true _ _ (bothHold (leb lineRoom n) e .1)
 
 pub nothingLands : {T : Type 0} (t : T) (room : List ℕ) → Lands (noShare t) room noTurn t room
 nothingLands t room = record { answers = refl; leaves = refl; writes = refl }

@@ -12,6 +12,7 @@ use lib.Dec.{eqb, leb, ltb}
 use lib.ListN.{length, getD, take, drop, replicate}
 use borrow.Author.Tests.{le-leb, lt-leb, lt-ltb}
 use native.Mathlib.Omega.{arith}
+use Rattle.circuit.proofs.Every.{bothHold}
 use Rattle.circuit.specs.declared.Record.{Record}
 use Rattle.circuit.specs.declared.Sends.the-variants.{Nothing}
 use Rattle.circuit.specs.declared.Signal.{Signal}
@@ -48,7 +49,7 @@ use Rattle.formats.specs.Octets.{badCodes, firstBad}
 use Rattle.reader.specs.Faults.{Fault, fault, rulesOf, placeOf}
 use Rattle.reader.specs.Places.{dpcIn, cicIn, headingIn, countIn, addressIn}
 use Rattle.reader.specs.Reading.{elsewhere, unfit, fieldsOf}
-use Rattle.reader.proofs.Faults.{bothHold, like}
+use Rattle.reader.proofs.Faults.{like}
 use Rattle.reader.proofs.Bodies.{unfitLength}
 use Rattle.formats.proofs.ByHeading.{signalsOfIam, countedLength, countOctet, signalOctetsOf}
 use Rattle.writer.specs.Writing.{Said, tooLarge, badAddress, octetsOf, writeRules}

@@ -1,7 +1,7 @@
 -- Laws of what a reader looks for: its answer is the first fault that is found, with its place, and where none is, what the octets say.
 -- Assumes nothing.
-use mathlib.Core.Path.{_≡_, refl, sym, ap, _∙_, subst}
-use mathlib.Core.Bool.{Bool, true, false, cond, _&&_}
+use mathlib.Core.Path.{_≡_, refl, ap, _∙_, subst}
+use mathlib.Core.Bool.{Bool, true, false, cond}
 use mathlib.Core.List.{List, [], _∷_, _++_}
 use Prim.Native.Nat.{ℕ, suc}
 use native.Mathlib.Omega.{arith}
@@ -13,11 +13,6 @@ use Rattle.reader.specs.declared.Fields.{Fields}
 use Rattle.reader.specs.Faults.{Fault, fault, rulesOf, placeOf}
 use Rattle.reader.specs.Places.{headingIn}
 use Rattle.reader.specs.Reading.{readFaults, readRules, refused, fieldsIn, judged, fieldsOf}
-
--- a test that is made only of some messages holds: of those
-pub bothHold : (a : Bool) {b : Bool} → (a && b) ≡ true → (a ≡ true) × (b ≡ true)
-bothHold true e = (refl, e)
-bothHold false e = absurd (subst T (sym e) tt)
 
 module _ (f : Fields) where
   givesRefusal : f .refusal ≡ 0 → (faults : List Fault) → judged faults f .refusal ≡ firstOf (rulesOf faults)

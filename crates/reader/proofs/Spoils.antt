@@ -10,6 +10,7 @@ use borrow.Author.Tests.{ltb-true}
 use lib.Dec.{T, eqb, ltb}
 use lib.ListN.{length, getD, take}
 use lib.Seq.{getD-take}
+use Rattle.circuit.proofs.Every.{bothHold}
 use Rattle.circuit.specs.Refusals.{Clear}
 use Rattle.circuit.proofs.Refusals.{clear}
 use Rattle.reader.specs.declared.Fields.{Fields}
@@ -22,7 +23,7 @@ use Rattle.formats.proofs.Places.{headingThere}
 use Rattle.formats.proofs.Signals.{someBefore, eachPasses, firstFits}
 use Rattle.reader.specs.Places.{headingIn, fieldBy, signalsBy}
 use Rattle.reader.specs.Reading.{readFaults, readRules, fieldsIn, fieldsOf}
-use Rattle.reader.proofs.Faults.{bothHold, cases, readRefusal}
+use Rattle.reader.proofs.Faults.{cases, readRefusal}
 use Rattle.reader.proofs.ByLetter.{wordIn, address, counted, long, its, iamIn}
 
 -- octets that the reader takes in some group with these codes, and that begin with the same

@@ -9,6 +9,7 @@ use borrow.Author.Tests.{ltb-true, ltb-false, eq-eqb, eqb-true, eqb-false, lt-le
 use lib.Dec.{T, eqb, ltb}
 use lib.ListN.{length, getD, take, replicate, length-append, length-replicate, List·getD-append}
 use lib.Seq.{length-take-le, take-at, getD-take, getD-append-add, take-suc}
+use Rattle.circuit.proofs.Every.{bothHold}
 use Rattle.circuit.specs.Groups.{badGroup}
 use Rattle.circuit.proofs.Groups.{inRange, turned}
 use Rattle.circuit.proofs.Refusals.{noneGiven}
@@ -25,7 +26,7 @@ use Rattle.reader.specs.Reading.{elsewhere, unfit, strayOctet, readFault
 use Rattle.reader.specs.Stands.{CouldStand}
 use Rattle.reader.specs.Way.{bodyOf}
 use Rattle.reader.proofs.Bodies.{ours-read, taken, iam-taken}
-use Rattle.reader.proofs.Faults.{bothHold, cases, readRefusal}
+use Rattle.reader.proofs.Faults.{cases, readRefusal}
 use Rattle.reader.proofs.ByLetter.{wordIn, signalIn, allCircuits, address, counted, long, its, iamIn}
 
 -- MESSAGES THAT ARE READ
