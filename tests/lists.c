@@ -148,11 +148,7 @@ static void save_groups(void)
         }
         save(file, len);
     }
-    for (unsigned kind = 1; kind < 8; kind++) {
-        put_group(file, 2, 1, 2);
-        file[0] = (uint8_t)kind;
-        save(file, 7);
-    }
+    save_no_groups();
 }
 
 static void save_all(void)

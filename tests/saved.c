@@ -51,3 +51,13 @@ size_t put_group(uint8_t *at, uint32_t own, uint32_t far, uint32_t count)
     }
     return 7;
 }
+
+void save_no_groups(void)
+{
+    uint8_t record[7];
+    size_t len = put_group(record, 2, 1, 2);
+    for (unsigned kind = 1; kind < 8; kind++) {
+        record[0] = (uint8_t)kind;
+        save(record, len);
+    }
+}

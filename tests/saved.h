@@ -15,6 +15,9 @@ unsigned saved(void);
 /* The group's record, with which each file begins; its length. */
 size_t put_group(uint8_t *at, uint32_t own, uint32_t far, uint32_t count);
 
+/* Saves files that begin with a record of another kind. */
+void save_no_groups(void);
+
 /* Groups good and bad. */
 enum { GROUPS = 12 };
 extern const uint32_t groups[GROUPS][3];

@@ -85,11 +85,7 @@ static void save_groups(void)
         len += put_event(trace + len, &last);
         save(trace, len);
     }
-    for (unsigned kind = 1; kind < 8; kind++) {
-        put_group(trace, 2, 1, 2);
-        trace[0] = (uint8_t)kind;
-        save(trace, 7);
-    }
+    save_no_groups();
 }
 
 /* One event of each kind and a few more, cut behind every octet. */

@@ -2,16 +2,18 @@
 -- file of messages"). The place of each refusal is in the table `readerFaults` of `Demand1`; here stands what it means.
 -- Assumes nothing.
 use mathlib.Core.Path.{_≡_, refl}
-use mathlib.Core.Bool.{true, false, cond}
+use mathlib.Core.Bool.{Bool, true, false, cond}
 use mathlib.Core.List.{List, [], _∷_, _++_}
 use mathlib.Core.Logic.{_⊎_}
 use Prim.Native.Nat.{ℕ, suc, _+_, _<_, _≤_}
 use lib.Dec.{eqb, ltb}
 use lib.ListN.{length, getD, take, drop}
 use Rattle.circuit.specs.Groups.{badGroup}
+use Rattle.circuit.specs.Refusals.{refuse}
 use Rattle.formats.specs.Octets.{badCode, firstBad}
 use Rattle.formats.proofs.Signals.{noneBefore, firstFits}
 use Rattle.reader.specs.declared.Fields.{Fields}
+use Rattle.reader.specs.Faults.{Fault, fault, rulesOf, placeOf}
 use Rattle.reader.specs.Reading.{fieldsOf}
 use Rattle.reader.specs.Stands.{CouldStand}
 use Rattle.reader.proofs.Faults.{lengthPlace}
@@ -28,14 +30,25 @@ use Rattle.messages.specs.Cases.{messagesCase, messagesText}
 use Rattle.messages.proofs.Cases.{theCase}
 use Rattle.messages.proofs.Laws.{lawful}
 
+-- in such a table the first line that holds gives refusal and place; where none does there is no place
+pub faultsMean : (n place : ℕ) (holds : Bool) (faults : List Fault)
+    → (rulesOf (fault n holds place ∷ faults) ≡ refuse n holds ∷ rulesOf faults) × (rulesOf [] ≡ [])
+    × (placeOf (fault n true place ∷ faults) ≡ place) × (placeOf (fault n false place ∷ faults) ≡ placeOf faults) × (placeOf [] ≡ 0)
+faultsMean n place holds faults = (refl, refl, refl, refl, refl)
+
 module _ (own far count : ℕ) (xs : List ℕ) where
   -- a length refusal names the length received
   pub lengthReceived : fieldsOf own far count xs .refusal ≡ 7 → fieldsOf own far count xs .place ≡ length xs
   lengthReceived = lengthPlace own far count xs
 
+  -- octets that could stand in a message that is read: some message begins with them, and is read in a group with these codes that has all 4096
+  -- circuits
+  pub couldStandMeans : (n : ℕ) (c : CouldStand own far xs n)
+      → ((i : ℕ) → getD (c .message) i 0 < 256) × (take n (c .message) ≡ take n xs) × (fieldsOf own far 4096 (c .message) .refusal ≡ 0)
+  couldStandMeans n c = (c .octets, c .begins, c .isRead)
+
   module _ (octets : (i : ℕ) → getD xs i 0 < 256) where
-    -- any other refusal in a good group names an octet of the message, and those before it could stand in a message that is read, but for its circuit:
-    -- some message begins with them, and is read in a group with these codes that has all 4096 circuits
+    -- any other refusal in a good group names an octet of the message, and those before it could stand in a message that is read, but for its circuit
     pub beforeThePlace : badGroup own far count ≡ false → (fieldsOf own far count xs .refusal ≡ 7 → ⊥)
         → CouldStand own far xs (fieldsOf own far count xs .place) × (fieldsOf own far count xs .place < length xs)
     beforeThePlace = stands own far count xs octets

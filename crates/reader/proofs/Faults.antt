@@ -47,7 +47,7 @@ placeAfter [] more c = refl
 placeAfter (fault k true place ∷ faults) more c = absurd (subst T (c .0) tt)
 placeAfter (fault k false place ∷ faults) more c = placeAfter faults more (c .1)
 
--- Two lists give the same place that have the same numbers and tests, and the same places where these hold.
+-- Two lists give the same place that have the same tests, and the same places where these hold.
 abbrev pub Like : List Fault → List Fault → Type 0
 Like [] [] = Unit {0}
 Like [] (r ∷ others) = ⊥

@@ -32,7 +32,7 @@ use Rattle.reader.proofs.ByLetter.{wordIn, signalIn, allCircuits, addre
 -- MESSAGES THAT ARE READ
 
 module _ (ys : List ℕ) (octets : (i : ℕ) → getD ys i 0 < 256) (own far : ℕ) (good : badGroup own far 4096 ≡ false) (ours : elsewhere own far ys ≡ false) where
-  -- a message that has no fields of (its ys octets) own is read
+  -- a message that has no fields of its own is read
   plainRead : length ys ≡ 6 → getD ys 5 0 ≡ 0x46 → fieldsOf own far 4096 ys .refusal ≡ 0
   plainRead n h =
       ap (λ (f : Fields). f .refusal)
