@@ -1,12 +1,13 @@
 -- Laws of a list of refusals: when a number is given, when none is, and what a rule at the end adds.
 -- Assumes nothing.
 use mathlib.Core.Path.{_≡_, refl, sym, _∙_, subst}
-use mathlib.Core.Bool.{Bool, true, false}
+use mathlib.Core.Bool.{Bool, true, false, _&&_}
 use mathlib.Core.List.{List, [], _∷_, _++_}
 use mathlib.Core.Logic.{_↔_, inl, inr, ⊎-elim}
 use Prim.Native.Nat.{ℕ, zero, suc}
 use native.Mathlib.Omega.{arith}
 use lib.Dec.{T}
+use Rattle.circuit.proofs.Every.{left, right}
 use Rattle.circuit.specs.Refusals.{refuse, Rule, firstOf, Given, Clear}
 
 -- A refusal's number is the answer exactly when a test with this number holds and none before it does.
@@ -33,6 +34,16 @@ pub noneGiven : (rules : List Rule) → Clear rules → firstOf rules ≡ 0
 noneGiven [] c = refl
 noneGiven (refuse n true ∷ rules) c = absurd (subst T (c .0) tt)
 noneGiven (refuse n false ∷ rules) c = noneGiven rules (c .1)
+
+-- What the number of every rule fits, the answer does.
+abbrev pub everyNumber : (ℕ → Bool) → List Rule → Bool
+everyNumber test [] = true
+everyNumber test (refuse n holds ∷ rules) = test n && everyNumber test rules
+
+pub answerFits : (test : ℕ → Bool) (rules : List Rule) → T (everyNumber test rules) → (n : ℕ) → firstOf rules ≡ suc n → T (test (suc n))
+answerFits test [] t n e = absurd (omega arith)
+answerFits test (refuse k true ∷ rules) t n e = subst (λ (m : ℕ). T (test m)) e (left (test k) (everyNumber test rules) t)
+answerFits test (refuse k false ∷ rules) t n e = answerFits test rules (right (test k) (everyNumber test rules) t) n e
 
 -- Rules at the end of a list decide exactly where none before them does.
 pub beforeThem : (rules more : List Rule) (n : ℕ) → firstOf rules ≡ suc n → firstOf (rules ++ more) ≡ suc n

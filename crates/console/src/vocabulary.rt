@@ -1,5 +1,5 @@
 // The words of the named form. A column's words stand in one text in the order of their numbers, 0 first, with a blank or a line feed
-// between two. Each function puts a number's word at a place of the room and answers the place behind it; a number that has no word
+// between two; a number that is not in use has its digits there. Each function puts a number's word at a place of the room and answers the place behind it; a number that has no word
 // keeps its digits.
 
 // One more than the four flags together are worth.
@@ -70,7 +70,10 @@ wrong-address
 output-too-short
 bad-record
 counter-full
-no-circuit",
+no-circuit
+15
+16
+short-number",
     )
 }
 

@@ -30,6 +30,7 @@ use Rattle.formats.specs.Messages.{formatOf, isAcm}
 use Rattle.formats.proofs.Format.{gotFits}
 use Rattle.formats.proofs.ByHeading.{acmMost}
 use Rattle.reader.specs.Places.{cicIn, headingIn, fieldBy}
+use Rattle.formats.specs.Octets.{short}
 use Rattle.reader.specs.Reading.{readRules, fieldsOf}
 use Rattle.reader.proofs.Faults.{readRefusal, readFields}
 use Rattle.writer.specs.Writing.{badAddress}
@@ -44,12 +45,12 @@ use Rattle.exchanges.proofs.Seen.{seenIn, signals}
 use Rattle.exchanges.proofs.Carried.{endAt, LinkHolds, HoldsPair, EndsActed, onIt, besideIt, notBarred}
 
 pub plainlyGood : T (good plainly)
-unfolding good badAddress
+unfolding good badAddress short
 plainlyGood = tt
 
 -- an accepted message is of a circuit of the group
 ofGroup : (own far count : ℕ) (m : Message) → fieldsOf own far count m .refusal ≡ 0 → cicIn m < count
-ofGroup own far count m z = leb-false count (cicIn m) (tests .1 .1 .1 .1 .1 .1 .1 .1 .0)
+ofGroup own far count m z = leb-false count (cicIn m) (tests .1 .1 .1 .1 .1 .1 .1 .1 .1 .0)
   where
     tests : Clear (readRules own far count m)
     tests = clear (readRules own far count m) tt (sym (readRefusal own far count m) ∙ z)

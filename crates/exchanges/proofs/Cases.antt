@@ -10,6 +10,7 @@ use Rattle.words.specs.Words.{number, put}
 use Rattle.layout.specs.Layout.{recordsIn, counterIn, stateAt, flagsAt, rankAt, recordOf, flagsOf, putOctets, putRank, putCounter}
 use Rattle.layout.proofs.Laws.{idleState, idleFlags}
 use Rattle.group.specs.Table.{stepIn}
+use Rattle.formats.specs.Octets.{short}
 use Rattle.reader.specs.Reading.{fieldsOf}
 use Rattle.writer.specs.Writing.{tooLarge, badAddress, octetsOf, writing}
 use Rattle.tup.specs.Entries.{readInto}
@@ -31,15 +32,15 @@ abbrev pub settled : Both (List ℕ) Message
 settled = exchanges (two 1 0 1 7 0) [] (two 1 0 1 2 0) []
 
 pub crosses : (watched : ℕ) → ranFrom watched (quiet, quiet) crossing ≡ crossed
-unfolding good badAddress tooLarge octetsOf writing fieldsOf readInto stepIn recordsIn counterIn stateAt flagsAt rankAt recordOf flagsOf putOctets putRank putCounter number put eventOf stepFound step first
+unfolding good badAddress short tooLarge octetsOf writing fieldsOf readInto stepIn recordsIn counterIn stateAt flagsAt rankAt recordOf flagsOf putOctets putRank putCounter number put eventOf stepFound step first
 crosses watched = refl
 
 pub restarts : (watched : ℕ) → ranFrom watched crossed restarting ≡ restarted
-unfolding good badAddress tooLarge octetsOf writing fieldsOf readInto stepIn recordsIn counterIn stateAt flagsAt rankAt recordOf flagsOf putOctets putRank putCounter number put eventOf stepFound step first
+unfolding good badAddress short tooLarge octetsOf writing fieldsOf readInto stepIn recordsIn counterIn stateAt flagsAt rankAt recordOf flagsOf putOctets putRank putCounter number put eventOf stepFound step first
 restarts watched = refl
 
 pub settles : (watched : ℕ) → ranFrom watched restarted arriving ≡ settled
-unfolding good badAddress tooLarge octetsOf writing fieldsOf readInto stepIn recordsIn counterIn stateAt flagsAt rankAt recordOf flagsOf putOctets putRank putCounter number put eventOf stepFound step first
+unfolding good badAddress short tooLarge octetsOf writing fieldsOf readInto stepIn recordsIn counterIn stateAt flagsAt rankAt recordOf flagsOf putOctets putRank putCounter number put eventOf stepFound step first
 settles watched = refl
 
 pub shown : (watched : ℕ) → let x = ranFrom watched (quiet, quiet) crossing in

@@ -19,7 +19,7 @@ use Rattle.circuit.proofs.Every.{left, right}
 use Rattle.codes.specs.declared.Named.{Named}
 use Rattle.codes.specs.declared.Named.the-variants.{Known, Unknown}
 use Rattle.codes.specs.Headings.{headingOf, signalOf}
-use Rattle.formats.specs.Octets.{aboveFifteen}
+use Rattle.formats.specs.Octets.{aboveFifteen, short}
 use Rattle.formats.specs.Messages.{hasSignals, listed, half}
 use Rattle.reader.specs.declared.Fields.{Fields}
 use Rattle.reader.specs.Places.{cicIn}
@@ -55,12 +55,12 @@ module _ (p : Particulars) (g : T (good p)) where
   abbrev i : Bool
   i = leb (p .indicators) 2047
 
-  afterCategory : T (i && (goodAddress (p .address) && leb 17 (length (p .buffer))))
+  afterCategory : T (i && (goodAddress (p .indicators) (p .address) && leb 17 (length (p .buffer))))
   unfolding good
   afterCategory = right c _ (right a _ g)
 
-  address : T (goodAddress (p .address))
-  address = left (goodAddress (p .address)) _ (right i _ afterCategory)
+  address : T (goodAddress (p .indicators) (p .address))
+  address = left (goodAddress (p .indicators) (p .address)) _ (right i _ afterCategory)
 
   acmFits : ltb 63 (p .acm) ≡ false
   unfolding good
@@ -76,11 +76,17 @@ module _ (p : Particulars) (g : T (good p)) where
   codesFit : aboveFifteen (p .address) ≡ false
   codesFit = isFalse (aboveFifteen (p .address)) (left (not (aboveFifteen (p .address))) _ address)
 
+  ordered : T (not (badAddress (p .address)) && not (short (p .indicators) (p .address)))
+  ordered = right (not (aboveFifteen (p .address))) _ address
+
   addressInOrder : badAddress (p .address) ≡ false
-  addressInOrder = isFalse (badAddress (p .address)) (right (not (aboveFifteen (p .address))) _ address)
+  addressInOrder = isFalse (badAddress (p .address)) (left (not (badAddress (p .address))) _ ordered)
+
+  longEnough : short (p .indicators) (p .address) ≡ false
+  longEnough = isFalse (short (p .indicators) (p .address)) (right (not (badAddress (p .address))) _ ordered)
 
   room : 17 ≤ length (p .buffer)
-  room = leb→le 17 (length (p .buffer)) (right (goodAddress (p .address)) _ (right i _ afterCategory))
+  room = leb→le 17 (length (p .buffer)) (right (goodAddress (p .indicators) (p .address)) _ (right i _ afterCategory))
 
 -- THE WRITER TAKES IT
 
@@ -89,8 +95,8 @@ module _ (own far count cic : ℕ) (group : badGroup own far count ≡ false) (h
   Taken h = firstOf (writeRules own far count (saying cic h p) (length (p .buffer))) ≡ 0
 
   taken : (h : ℕ) → listed h ≡ true → tooLarge (saying cic h p) ≡ false → (hasSignals h && badAddress (saying cic h p .address)) ≡ false
-      → lengthOf (saying cic h p) ≤ 17 → Taken h
-  taken h known fit ordered short =
+      → (hasSignals h && short (saying cic h p .indicators) (saying cic h p .address)) ≡ false → lengthOf (saying cic h p) ≤ 17 → Taken h
+  taken h known fit ordered enough most =
       let low : cic < 4096 = below own far count cic group has in
       let fits : lengthOf (saying cic h p) ≤ length (p .buffer) = let r = room p g in omega arith in
       noneGiven (writeRules own far count (saying cic h p) (length (p .buffer))) (
@@ -103,7 +109,7 @@ module _ (own far count cic : ℕ) (group : badGroup own far count ≡ false) (h
               fit,
               (
                 ordered,
-                (ap (ltb (length (p .buffer))) (octetsLong own far (saying cic h p)) ∙ le-ltb (length (p .buffer)) (lengthOf (saying cic h p)) fits, tt),
+                (enough, (ap (ltb (length (p .buffer))) (octetsLong own far (saying cic h p)) ∙ le-ltb (length (p .buffer)) (lengthOf (saying cic h p)) fits, tt)),
               ),
             ),
           ),
@@ -111,14 +117,15 @@ module _ (own far count cic : ℕ) (group : badGroup own far count ≡ false) (h
       )
 
   plainTaken : (h : ℕ) → listed h ≡ true → tooLarge (saying cic h p) ≡ false → hasSignals h ≡ false → lengthOf (saying cic h p) ≤ 17 → Taken h
-  plainTaken h known fit i = taken h known fit (ap (λ (b : Bool). b && badAddress (saying cic h p .address)) i)
+  plainTaken h known fit i =
+      taken h known fit (ap (λ (b : Bool). b && badAddress (saying cic h p .address)) i) (ap (λ (b : Bool). b && short (saying cic h p .indicators) (saying cic h p .address)) i)
 
   iamFits : tooLarge (saying cic 0x11 p) ≡ false
   unfolding tooLarge
   iamFits = rw (categoryFits p g, indicatorsFit p g, codesFit p g) refl
 
-  iamShort : 9 + half (length (p .address)) ≤ 17
-  iamShort = let n = few (p .address) (addressInOrder p g) in omega arith
+  iamMost : 9 + half (length (p .address)) ≤ 17
+  iamMost = let n = few (p .address) (addressInOrder p g) in omega arith
 
   acmSaid : tooLarge (saying cic 0x14 p) ≡ false
   unfolding tooLarge
@@ -126,7 +133,7 @@ module _ (own far count cic : ℕ) (group : badGroup own far count ≡ false) (h
 
   pub writerTakes : (s : Signal) → Taken (headingOf s)
   unfolding tooLarge
-  writerTakes Iam = taken 0x11 refl iamFits (addressInOrder p g) iamShort
+  writerTakes Iam = taken 0x11 refl iamFits (addressInOrder p g) (longEnough p g) iamMost
   writerTakes (Acm octet) = plainTaken 0x14 refl acmSaid refl (lit≤ tt)
   writerTakes Anc = plainTaken 0x16 refl refl refl (lit≤ tt)
   writerTakes Ann = plainTaken 0x26 refl refl refl (lit≤ tt)

@@ -17,7 +17,7 @@ use Rattle.codes.specs.Numbers.{eventOf}
 use Rattle.words.specs.Octets.{numberOf}
 use Rattle.layout.specs.Layout.{recordsIn, stateAt, flagsAt, recordAt, allowedAt}
 use Rattle.group.specs.Table.{stepIn}
-use Rattle.formats.specs.Octets.{aboveFifteen}
+use Rattle.formats.specs.Octets.{aboveFifteen, short}
 use Rattle.formats.specs.Messages.{isIam, isAcm}
 use Rattle.reader.specs.Places.{cicIn}
 use Rattle.writer.specs.Writing.{Said, said, badAddress}
@@ -50,12 +50,12 @@ pub record Particulars : Type 0 where
   pub address : List ℕ
   pub buffer : List ℕ
 
--- good ones: no spare bit is set, the address is in order, and the buffer has room for the longest message
-abbrev pub goodAddress : List ℕ → Bool
-goodAddress address = not (aboveFifteen address) && not (badAddress address)
+-- good ones: no spare bit is set, the address is in order and not a short international number, and the buffer has room for the longest message
+abbrev pub goodAddress : (indicators : ℕ) → List ℕ → Bool
+goodAddress indicators address = not (aboveFifteen address) && (not (badAddress address) && not (short indicators address))
 
 unfoldable pub good : Particulars → Bool
-good p = leb (p .acm) 63 && (leb (p .category) 63 && (leb (p .indicators) 2047 && (goodAddress (p .address) && leb 17 (length (p .buffer)))))
+good p = leb (p .acm) 63 && (leb (p .category) 63 && (leb (p .indicators) 2047 && (goodAddress (p .indicators) (p .address) && leb 17 (length (p .buffer)))))
 
 -- what the writer is told: of a signal its heading, with the fields that the heading has
 abbrev pub saying : (cic heading : ℕ) → Particulars → Said

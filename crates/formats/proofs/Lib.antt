@@ -1,4 +1,5 @@
 pub mod Signals
+pub mod Few
 pub mod Lengths
 pub mod Stores
 pub mod Format

@@ -1,8 +1,8 @@
--- Which address signals are refused (Q.723; docs/RULES.md, "Messages on the link"). Reader and writer both go by these.
+-- Which address signals are refused, and which numbers are short (Q.723; docs/RULES.md, "Messages on the link"). Reader and writer both go by these.
 -- Assumes nothing.
-use mathlib.Core.Bool.{Bool, false, cond, _||_}
+use mathlib.Core.Bool.{Bool, false, cond, not, _&&_, _||_}
 use mathlib.Core.List.{List, [], _∷_}
-use Prim.Native.Nat.{ℕ, suc}
+use Prim.Native.Nat.{ℕ, suc, _%_}
 use lib.Dec.{eqb, ltb}
 use lib.ListN.{length}
 
@@ -33,3 +33,23 @@ firstBad = beforeSignal badCode
 
 abbrev pub aboveFifteen : List ℕ → Bool
 aboveFifteen = someSignal (λ code more. ltb 15 code)
+
+-- SHORT INTERNATIONAL NUMBERS
+
+-- the nature of address, which is the two lowest indicators, is 3
+abbrev pub international : (indicators : ℕ) → Bool
+international indicators = eqb (indicators % 4) 3
+
+-- how many signals there are besides ST
+abbrev pub besidesSt : List ℕ → ℕ
+besidesSt [] = 0
+besidesSt (code ∷ rest) = cond (eqb code 15) (besidesSt rest) (suc (besidesSt rest))
+
+-- the address begins with operator code 11 or 12
+abbrev pub toOperator : List ℕ → Bool
+toOperator [] = false
+toOperator (code ∷ rest) = eqb code 11 || eqb code 12
+
+-- an international number with fewer than four signals besides ST, unless it goes to an operator
+unfoldable pub short : (indicators : ℕ) → List ℕ → Bool
+short indicators address = international indicators && (ltb (besidesSt address) 4 && not (toOperator address))

@@ -1,8 +1,9 @@
 // What the reader and the writer of messages share (Q.723, "Formats and codes"; docs/RULES.md, "Messages on the link"): how long a message is
-// by its heading, and which address signals are refused.
+// by its heading, which address signals are refused, and which numbers are short.
 ghost use mathlib.Core.Path.{_≡_};
 ghost use mathlib.Core.Bool.{cond};
-ghost use Rattle.formats.specs.Octets.{badCode, badCodes, firstBad};
+ghost use lib.Dec.{ltb};
+ghost use Rattle.formats.specs.Octets.{badCode, badCodes, firstBad, besidesSt, toOperator, short};
 ghost use Rattle.formats.specs.Messages.{fixedLength, listed};
 ghost use Rattle.formats.specs.Way.{groupOf};
 
@@ -39,6 +40,16 @@ pub const COUNT_OCTET: u64 = 8;
 
 // The address signal that ends the address.
 const ST: u8 = 15;
+
+// The address signals that call an operator.
+const CODE_11: u8 = 11;
+
+const CODE_12: u8 = 12;
+
+// The nature of address, which is the two lowest indicators, of an international number, and how many signals besides ST make one long enough.
+const INTERNATIONAL: u32 = 3;
+
+const ENOUGH_SIGNALS: usize = 4;
 
 // The headings that begin with H0, as Q.723 groups them, as a set: H1 is in it where the bit worth 2^H1 is set.
 fn group_of(h0: u32) -> u32
@@ -115,4 +126,45 @@ pub fn bad_codes(address: &[u8]) -> bool
     ensures { λ r. ⌜ r ≡ badCodes (now (address .entry)) ⌝ }
 {
     first_bad(address) < address.len()
+}
+
+// Whether an address begins with an operator's code.
+fn to_operator(address: &[u8]) -> bool
+    ensures { λ r. ⌜ r ≡ toOperator (now (address .entry)) ⌝ }
+{
+    if address.len() == 0 {
+        return false;
+    }
+    if address[0] == CODE_11 {
+        return true;
+    }
+    address[0] == CODE_12
+}
+
+// Whether an address has fewer than four signals besides ST. Those behind the fourth are not looked at.
+fn few_signals(address: &[u8]) -> bool
+    ensures { λ r. ⌜ r ≡ ltb (besidesSt (now (address .entry))) 4 ⌝ }
+{
+    let mut n = 0;
+    let mut i = 0;
+    while i < address.len() && n < ENOUGH_SIGNALS {
+        if address[i] != ST {
+            n += 1;
+        }
+        i += 1;
+    }
+    n < ENOUGH_SIGNALS
+}
+
+// Whether an international number is short.
+pub fn short(indicators: u32, address: &[u8]) -> bool
+    ensures { λ r. ⌜ r ≡ short indicators (now (address .entry)) ⌝ }
+{
+    if indicators % 4 != INTERNATIONAL {
+        return false;
+    }
+    if to_operator(address) {
+        return false;
+    }
+    few_signals(address)
 }

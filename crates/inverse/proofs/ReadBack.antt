@@ -15,7 +15,7 @@ use Rattle.circuit.specs.Refusals.{firstOf, Clear}
 use Rattle.circuit.proofs.Refusals.{clear, noneGiven}
 use Rattle.formats.specs.Format.{Name, DPC, OPC, CIC, HEADING, ACM, CATEGORY, INDICATORS, COUNT, Behind, nothing, addressSignals, Format, Content, each, many, octetsFor, contentIn, most, Fits}
 use Rattle.formats.specs.Messages.{formatOf, signalsBehind, hasSignals, listed}
-use Rattle.formats.specs.Octets.{badCodes, aboveFifteen}
+use Rattle.formats.specs.Octets.{badCodes, aboveFifteen, short}
 use Rattle.formats.proofs.Format as format
 use Rattle.formats.proofs.ByHeading.{onceEach, countMost}
 use Rattle.formats.proofs.Lengths.{octet}
@@ -134,7 +134,10 @@ module _ (own far records : ℕ) (m : Said) (room : ℕ) (ok : firstOf (writeRul
           while (hasSignals (m .heading)) (λ e. ap not (eq-eqb _ _ (long ∙ ap (octetsFor f) (sym (says COUNT))))),
           (
             while (hasSignals (m .heading)) (λ e. ap (λ (c : Content). badCodes (c .signals)) there ∙ in-order (m .address) (ordered e) .2),
-            (lt-leb theirs (cicIn xs) (subst (λ (k : ℕ). k < theirs) (sym circuit) has), tt),
+            (
+              ap (λ (c : Content). hasSignals (m .heading) && short (c .says INDICATORS) (c .signals)) there ∙ tests .1 .1 .1 .1 .1 .0,
+              (lt-leb theirs (cicIn xs) (subst (λ (k : ℕ). k < theirs) (sym circuit) has), tt),
+            ),
           ),
         ),
       ),

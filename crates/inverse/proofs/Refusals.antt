@@ -6,10 +6,10 @@ use mathlib.Core.List.{List, [], _∷_}
 use mathlib.Core.Logic.{_↔_}
 use Prim.Native.Nat.{ℕ, zero, suc, _/_, _%_, _≤_, min}
 use native.Mathlib.Omega.{arith}
-use lib.Dec.{ltb, lit≤}
+use lib.Dec.{T, leb, ltb, leb→le, lit≤}
 use lib.ListN.{length}
 use Rattle.circuit.specs.Refusals.{refuse, Rule, firstOf, Clear}
-use Rattle.circuit.proofs.Refusals.{clear, noneGiven, beforeThem, afterThem}
+use Rattle.circuit.proofs.Refusals.{clear, noneGiven, everyNumber, answerFits, beforeThem, afterThem}
 use Rattle.reader.specs.declared.Fields.{Fields}
 use Rattle.reader.specs.Faults.{Fault, fault, placeOf}
 use Rattle.reader.specs.Reading.{readFaults, readRules, fieldsOf}
@@ -19,15 +19,13 @@ use Rattle.tup.specs.Entries.{fieldsOctets, mostPlace, packedRefusal, Told, tel
 use Rattle.words.specs.Octets.{over}
 use Rattle.inverse.specs.Host.{intoFaults, intoRules, Packs}
 
--- no number of a list is above k
-abbrev AtMost : ℕ → List Rule → Type 0
-AtMost k [] = Unit {0}
-AtMost k (refuse n holds ∷ rules) = (n ≤ k) × AtMost k rules
-
-bounded : (k : ℕ) (rules : List Rule) → AtMost k rules → firstOf rules ≤ k
-bounded k [] h = omega arith
-bounded k (refuse n true ∷ rules) h = h .0
-bounded k (refuse n false ∷ rules) h = bounded k rules (h .1)
+-- an answer is an octet, where every number is
+anOctet : (rules : List Rule) → T (everyNumber (λ n. leb n 255) rules) → firstOf rules ≤ 255
+anOctet rules t = go (firstOf rules) refl
+  where
+    go : (n : ℕ) → firstOf rules ≡ n → n ≤ 255
+    go zero e = lit≤ tt
+    go (suc n) e = leb→le (suc n) 255 (answerFits (λ n. leb n 255) rules t n e)
 
 -- The answer of the reader that fills a lent buffer is the first fault that is found, with its place; its own refusal, 11, is last of all.
 module _ (own far count : ℕ) (xs buffer : List ℕ) where
@@ -59,8 +57,8 @@ module _ (own far count : ℕ) (xs buffer : List ℕ) where
       go (suc n) e =
           ap₂ packedRefusal (sym (beforeThem rules (refuse 11 short ∷ []) n e)) (readPlace own far count xs ∙ sym (placeBefore faults (fault 11 short 0 ∷ []) n e))
 
-  numbers : firstOf (intoRules own far count xs (length buffer)) ≤ 11
-  numbers = bounded 11 (intoRules own far count xs (length buffer)) (lit≤ tt, (lit≤ tt, (lit≤ tt, (lit≤ tt, (lit≤ tt, (lit≤ tt, (lit≤ tt, (lit≤ tt, (lit≤ tt, (lit≤ tt, tt))))))))))
+  numbers : firstOf (intoRules own far count xs (length buffer)) ≤ 255
+  numbers = anOctet (intoRules own far count xs (length buffer)) tt
 
   -- the number gives refusal and place back
   pub intoRefusal : readInto own far count xs buffer .answer % 256 ≡ firstOf (intoRules own far count xs (length buffer))
@@ -82,9 +80,8 @@ pub writeRefusal : (own far records : ℕ) (m : Said) (buffer : List ℕ) → wr
 unfolding writing
 writeRefusal own far records m buffer = refusalOf (firstOf (writeRules own far records m (length buffer))) (octetsOf own far m) buffer
 
-pub writeNumber : (own far records : ℕ) (m : Said) (buffer : List ℕ) → writing own far records m buffer .answer .refusal ≤ 11
-writeNumber own far records m buffer =
-    rw (writeRefusal own far records m buffer) (bounded 11 (writeRules own far records m (length buffer)) (lit≤ tt, (lit≤ tt, (lit≤ tt, (lit≤ tt, (lit≤ tt, (lit≤ tt, tt)))))))
+pub writeNumber : (own far records : ℕ) (m : Said) (buffer : List ℕ) → writing own far records m buffer .answer .refusal ≤ 255
+writeNumber own far records m buffer = rw (writeRefusal own far records m buffer) (anOctet (writeRules own far records m (length buffer)) tt)
 
 -- The number that the writer for a host in C answers gives refusal and length back.
 pub packs : (own far count : ℕ) (m : Said) (buffer : List ℕ) → Packs (writeFrom own far count m buffer .answer) (writing own far count m buffer .answer)

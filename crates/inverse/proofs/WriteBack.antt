@@ -177,7 +177,7 @@ module _ (own far records : ℕ) (xs : List ℕ) (ok : fieldsOf own far records 
       turned own far records records (tests .0) (recordsFit own far records (tests .0)),
       (
         le-ltb 4095 (cicIn xs) circuitFits,
-        (bodies .0, (taken, (ordered, (le-ltb (length buffer) (length (octetsOf far own again)) (let n = length-cleared in omega arith), tt)))),
+        (bodies .0, (taken, (ordered, (bodies .1 .1 .1 .1 .1 .0, (le-ltb (length buffer) (length (octetsOf far own again)) (let n = length-cleared in omega arith), tt))))),
       ),
     )
 

@@ -80,6 +80,8 @@ pub const COUNTER_FULL: u8 = 13;
 
 pub const NO_CIRCUIT: u8 = 14;
 
+pub const SHORT_NUMBER: u8 = 17;
+
 // Headings; no heading stands for no signal.
 pub const NO_SIGNAL: u8 = 0;
 

@@ -70,6 +70,7 @@ use Rattle.select.proofs.select.Reads as select
 use Rattle.formats.proofs.fixed_length.Reads as fixedLength
 use Rattle.formats.proofs.first_bad.Reads as firstBad
 use Rattle.formats.proofs.bad_codes.Reads as badCodes
+use Rattle.formats.proofs.short.Reads as short
 use Rattle.reader.proofs.read_fields.Reads as readFields
 use Rattle.reader.proofs.read.Reads as read
 use Rattle.writer.proofs.write.Reads as write
@@ -252,8 +253,8 @@ ofGroup = (λ κs a x y s t h k. once (h .0) (k .0), λ κs a x y s t h k. once 
 pub ofSelect : Once select.Learnt
 ofSelect κs a x y s t = once
 
-pub ofFormats : Once fixedLength.Learnt × Once firstBad.Learnt × Once badCodes.Learnt
-ofFormats = (λ κs a x y s t. once, λ κs a x y s t. once, λ κs a x y s t. once)
+pub ofFormats : Once fixedLength.Learnt × Once firstBad.Learnt × Once badCodes.Learnt × Once short.Learnt
+ofFormats = (λ κs a x y s t. once, λ κs a x y s t. once, λ κs a x y s t. once, λ κs a x y s t. once)
 
 pub ofReader : Once readFields.Learnt × Once read.Learnt
 ofReader = (λ κs a x y s t. once, λ κs a x y s t. once)

@@ -45,9 +45,9 @@ use Rattle.group.specs.Runs.{Follows, Follows.start, Follows.next}
 use Rattle.group.proofs.Laws as group
 use Rattle.group.proofs.Valid.{never12}
 use Rattle.formats.specs.Messages.{hasSignals, listed, isIam, isAcm, half}
-use Rattle.formats.specs.Octets.{badCodes, firstBad}
+use Rattle.formats.specs.Octets.{badCodes, firstBad, short}
 use Rattle.reader.specs.Faults.{Fault, fault, rulesOf, placeOf}
-use Rattle.reader.specs.Places.{dpcIn, cicIn, headingIn, countIn, addressIn}
+use Rattle.reader.specs.Places.{dpcIn, cicIn, headingIn, indicatorsIn, countIn, addressIn}
 use Rattle.reader.specs.Reading.{elsewhere, unfit, fieldsOf}
 use Rattle.reader.proofs.Faults.{like}
 use Rattle.reader.proofs.Bodies.{unfitLength}
@@ -61,7 +61,7 @@ use Rattle.inverse.proofs.Host.{intoKept, fromKept, fromFilled, intoFilled}
 -- EVENTS
 
 -- the order for events: 1, 2, 12, 3, then 5, 4 or 6, and last 13
-abbrev eventRules : (own far : ℕ) → List ℕ → (cic : ℕ) → Found → List Rule
+abbrev pub eventRules : (own far : ℕ) → List ℕ → (cic : ℕ) → Found → List Rule
 eventRules own far table cic event =
     refuse 1 (badGroup own far (recordsIn (length table)))
     ∷ refuse 2 (leb (recordsIn (length table)) cic)
@@ -172,7 +172,7 @@ tableHolds = recordsBack
 -- A message is taken exactly where no rule holds (`Clear`).
 
 -- "Reader: 1; under 6 octets, 7; 8; 9; length not fitting the heading (IAM under 9), 7; IAM count zero, 10; IAM length not 9 plus half the count
--- rounded up, 7; codes, 10; then 2." Last 11, where the room is under 23 octets. Each has its place: an octet, the first being 0; of a length the
+-- rounded up, 7; codes, 10; then 2." Directly after its codes a short international number, 17. Last 11, where the room is under 23 octets. Each has its place: an octet, the first being 0; of a length the
 -- length itself.
 abbrev readerFaults : (own far count : ℕ) → (octets : List ℕ) → (room : ℕ) → List Fault
 readerFaults own far count xs room =
@@ -184,6 +184,7 @@ readerFaults own far count xs room =
     ∷ fault 10 (isIam (headingIn xs) && eqb (countIn xs) 0) 8
     ∷ fault 7 (isIam (headingIn xs) && not (eqb (length xs) (9 + half (countIn xs)))) (length xs)
     ∷ fault 10 (isIam (headingIn xs) && badCodes (addressIn xs)) (9 + firstBad (addressIn xs) / 2)
+    ∷ fault 17 (isIam (headingIn xs) && short (indicatorsIn xs) (addressIn xs)) 8
     ∷ fault 2 (leb count (cicIn xs)) 3
     ∷ fault 11 (ltb room 23) 0
     ∷ []
@@ -203,7 +204,7 @@ readByLetter own far count xs room =
     alike (intoRules own far count xs room) (readerRules own far count xs room) (
       refl,
       refl,
-      (refl, refl, (refl, refl, (refl, refl, (refl, refl, (refl, ap (λ (b : Bool). b && eqb (countIn xs) 0) iam, (refl, countedLength h (length xs) (countIn xs), (refl, ap (λ (b : Bool). b && badCodes (addressIn xs)) iam, (refl, refl, (refl, refl, tt))))))))),
+      (refl, refl, (refl, refl, (refl, refl, (refl, refl, (refl, ap (λ (b : Bool). b && eqb (countIn xs) 0) iam, (refl, countedLength h (length xs) (countIn xs), (refl, ap (λ (b : Bool). b && badCodes (addressIn xs)) iam, (refl, ap (λ (b : Bool). b && short (indicatorsIn xs) (addressIn xs)) iam, (refl, refl, (refl, refl, tt)))))))))),
     )
 
 placesByLetter : (own far count : ℕ) (xs : List ℕ) (room : ℕ) → placeOf (intoFaults own far count xs room) ≡ placeOf (readerFaults own far count xs room)
@@ -234,7 +235,11 @@ placesByLetter own far count xs room =
                   (
                     ap (λ (b : Bool). b && badCodes (addressIn xs)) iam,
                     (λ e. signalOctetsOf h (bothHold (hasSignals h) e .0) (firstBad (addressIn xs))),
-                    (refl, (λ e. refl), (refl, (λ e. refl), tt)),
+                    (
+                      ap (λ (b : Bool). b && short (indicatorsIn xs) (addressIn xs)) iam,
+                      (λ e. countOctet h (bothHold (hasSignals h) e .0)),
+                      (refl, (λ e. refl), (refl, (λ e. refl), tt)),
+                    ),
                   ),
                 ),
               ),
@@ -258,7 +263,7 @@ readGiven own far count xs buffer = answered (readerRules own far count xs (leng
 pub readTaken : (own far count : ℕ) (xs buffer : List ℕ) → (readInto own far count xs buffer .answer ≡ 0) ↔ Clear (readerRules own far count xs (length buffer))
 readTaken own far count xs buffer = subst (λ (rules : List Rule). (readInto own far count xs buffer .answer ≡ 0) ↔ Clear rules) (readByLetter own far count xs (length buffer)) (intoTaken own far count xs buffer)
 
--- the order for the writer: 1, 2, 9, 3, 10, 11
+-- the order for the writer: 1, 2, 9, 3, 10, 17, 11
 abbrev writerRules : (own far count : ℕ) → Said → (room : ℕ) → List Rule
 writerRules own far count m room =
     refuse 1 (badGroup own far count)
@@ -266,12 +271,15 @@ writerRules own far count m room =
     ∷ refuse 9 (not (listed (m .heading)))
     ∷ refuse 3 (tooLarge m)
     ∷ refuse 10 (isIam (m .heading) && badAddress (m .address))
+    ∷ refuse 17 (isIam (m .heading) && short (m .indicators) (m .address))
     ∷ refuse 11 (ltb room (length (octetsOf own far m)))
     ∷ []
 
 writeByLetter : (own far count : ℕ) (m : Said) (room : ℕ) → writeRules own far count m room ≡ writerRules own far count m room
-writeByLetter own far count m room = alike (writeRules own far count m room) (writerRules own far count m room)
-    (refl, refl, (refl, refl, (refl, refl, (refl, refl, (refl, ap (λ (b : Bool). b && badAddress (m .address)) (signalsOfIam (m .heading)), (refl, refl, tt))))))
+writeByLetter own far count m room =
+    let iam = signalsOfIam (m .heading) in
+    alike (writeRules own far count m room) (writerRules own far count m room)
+    (refl, refl, (refl, refl, (refl, refl, (refl, refl, (refl, ap (λ (b : Bool). b && badAddress (m .address)) iam, (refl, ap (λ (b : Bool). b && short (m .indicators) (m .address)) iam, (refl, refl, tt)))))))
 
 pub writeRefused : (own far count : ℕ) (m : Said) (buffer : List ℕ) → writeFrom own far count m buffer .answer % 256 ≡ firstOf (writerRules own far count m (length buffer))
 writeRefused own far count m buffer = fromRefusal own far count m buffer ∙ ap firstOf (writeByLetter own far count m (length buffer))

@@ -48,7 +48,7 @@ use Rattle.tup.specs.Entries.{readInto, writeFrom}
 use Rattle.inverse.specs.Host.{Holds}
 use Rattle.inverse.proofs.Host.{carried}
 use Rattle.inverse.proofs.Laws as messages
-use Rattle.inverse.specs.Cases.{Written, Arrived, Ordered as ToWrite, writtenCases, arrivedCases, orderedCases}
+use Rattle.inverse.specs.Cases.{Written, Arrived, Ordered as ToWrite, writtenCases, shortArrived, arrivedCases, shortOrdered, orderedCases}
 use Rattle.inverse.proofs.Cases.{writtenHold, arrivedHold, placesHold, orderedHold}
 use Rattle.text.specs.Numbers.{decimal, valueFrom}
 use Rattle.text.specs.Lines.{endLine, cutLine, badGroupLine}
@@ -265,22 +265,23 @@ lengthsFit = messages.lengthFits
 -- messages of the exchange 2 to the exchange 1, and their octets; octets that arrive there, and messages to be written, with their refusals
 pub messagesWritten : map (λ (c : Written). octetsOf 2 1 (c .says)) writtenCases
     ≡ (0x01 ∷ 0x80 ∷ 0x00 ∷ 0x30 ∷ 0x00 ∷ 0x46 ∷ []) ∷ (0x01 ∷ 0x80 ∷ 0x00 ∷ 0x30 ∷ 0x00 ∷ 0x14 ∷ 0x05 ∷ [])
-    ∷ (0x01 ∷ 0x80 ∷ 0x00 ∷ 0x30 ∷ 0x00 ∷ 0x11 ∷ 0x0a ∷ 0x03 ∷ 0x30 ∷ 0x21 ∷ 0x0f ∷ []) ∷ []
+    ∷ (0x01 ∷ 0x80 ∷ 0x00 ∷ 0x30 ∷ 0x00 ∷ 0x11 ∷ 0x0a ∷ 0x02 ∷ 0x30 ∷ 0x21 ∷ 0x0f ∷ []) ∷ []
 unfolding writtenCases
 messagesWritten = writtenHold
 
 pub messagesRead : map (λ (c : Arrived). fieldsOf 1 2 (c .records) (c .octets) .refusal) arrivedCases
-    ≡ 0 ∷ 2 ∷ 7 ∷ 7 ∷ 8 ∷ 9 ∷ 7 ∷ 0 ∷ 7 ∷ 10 ∷ 10 ∷ 7 ∷ 10 ∷ 0 ∷ 10 ∷ 0 ∷ 8 ∷ 8 ∷ 10 ∷ 10 ∷ 10 ∷ 7 ∷ 7 ∷ []
-unfolding arrivedCases
+    ≡ 0 ∷ 2 ∷ 7 ∷ 7 ∷ 8 ∷ 9 ∷ 7 ∷ 0 ∷ 7 ∷ 10 ∷ 10 ∷ 7 ∷ 10 ∷ 0 ∷ 10 ∷ 0 ∷ 8 ∷ 8 ∷ 10 ∷ 10 ∷ 10 ∷ 7 ∷ 7 ∷ 17 ∷ 17 ∷ 0 ∷ 17 ∷ 0 ∷ 0 ∷ 17 ∷ 10 ∷ 0 ∷ 17 ∷ 17 ∷ 17 ∷ []
+unfolding arrivedCases shortArrived
 messagesRead = arrivedHold
 
 pub theirPlaces : map (λ (c : Arrived). fieldsOf 1 2 (c .records) (c .octets) .place) arrivedCases
-    ≡ 0 ∷ 3 ∷ 7 ∷ 5 ∷ 0 ∷ 5 ∷ 6 ∷ 0 ∷ 8 ∷ 8 ∷ 8 ∷ 9 ∷ 9 ∷ 0 ∷ 9 ∷ 0 ∷ 1 ∷ 0 ∷ 9 ∷ 10 ∷ 9 ∷ 0 ∷ 18 ∷ []
-unfolding arrivedCases
+    ≡ 0 ∷ 3 ∷ 7 ∷ 5 ∷ 0 ∷ 5 ∷ 6 ∷ 0 ∷ 8 ∷ 8 ∷ 8 ∷ 9 ∷ 9 ∷ 0 ∷ 9 ∷ 0 ∷ 1 ∷ 0 ∷ 9 ∷ 10 ∷ 9 ∷ 0 ∷ 18 ∷ 8 ∷ 8 ∷ 0 ∷ 8 ∷ 0 ∷ 0 ∷ 8 ∷ 9 ∷ 0 ∷ 8 ∷ 8 ∷ 8 ∷ []
+unfolding arrivedCases shortArrived
 theirPlaces = placesHold
 
-pub messagesRefused : map (λ (c : ToWrite). writing 2 1 1 (c .says) (replicate (c .room) 0) .answer .refusal) orderedCases ≡ 0 ∷ 2 ∷ 2 ∷ 9 ∷ 3 ∷ 3 ∷ 3 ∷ 3 ∷ 3 ∷ 10 ∷ 10 ∷ 10 ∷ 0 ∷ 11 ∷ []
-unfolding orderedCases
+pub messagesRefused : map (λ (c : ToWrite). writing 2 1 1 (c .says) (replicate (c .room) 0) .answer .refusal) orderedCases
+    ≡ 0 ∷ 2 ∷ 2 ∷ 9 ∷ 3 ∷ 3 ∷ 3 ∷ 3 ∷ 3 ∷ 10 ∷ 10 ∷ 10 ∷ 0 ∷ 11 ∷ 17 ∷ 17 ∷ 0 ∷ 17 ∷ 0 ∷ 0 ∷ 17 ∷ 10 ∷ 0 ∷ 17 ∷ 17 ∷ 17 ∷ 3 ∷ []
+unfolding orderedCases shortOrdered
 messagesRefused = orderedHold
 
 -- THE TRACE AND ITS REPLAY

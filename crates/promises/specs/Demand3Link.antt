@@ -20,7 +20,7 @@ use Rattle.codes.specs.Numbers.{eventOf}
 use Rattle.words.specs.Octets.{numberOf}
 use Rattle.layout.specs.Layout.{recordsIn, stateAt, flagsAt, recordAt}
 use Rattle.group.specs.Table.{stepIn}
-use Rattle.formats.specs.Octets.{aboveFifteen}
+use Rattle.formats.specs.Octets.{aboveFifteen, short}
 use Rattle.formats.specs.Messages.{isIam, isAcm}
 use Rattle.reader.specs.Places.{cicIn}
 use Rattle.reader.specs.Reading.{reading}
@@ -52,10 +52,10 @@ pub withoutIs : (such : Message → Bool) (m : Message) (w : List Message)
 withoutIs such m w = (refl, refl)
 
 -- What the host chooses for what it sends is good: an ACM's octet and an IAM's category have no spare bit, nor have its indicators; the address is of 1 to
--- 15 codes, none of them above 15, spare, or ST before the end; and the buffer that it lends to the writer has 17 octets or more.
+-- 15 codes, none of them above 15, spare, or ST before the end, and is no short international number; and the buffer that it lends to the writer has 17 octets or more.
 pub goodIs : (acm category indicators : ℕ) (address buffer : List ℕ)
     → good (record { acm = acm; category = category; indicators = indicators; address = address; buffer = buffer })
-    ≡ (leb acm 63 && (leb category 63 && (leb indicators 2047 && ((not (aboveFifteen address) && not (badAddress address)) && leb 17 (length buffer)))))
+    ≡ (leb acm 63 && (leb category 63 && (leb indicators 2047 && ((not (aboveFifteen address) && (not (badAddress address) && not (short indicators address))) && leb 17 (length buffer)))))
 unfolding good
 goodIs acm category indicators address buffer = refl
 

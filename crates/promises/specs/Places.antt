@@ -2,7 +2,7 @@
 -- file of messages"). The place of each refusal is in the table `readerFaults` of `Demand1`; here stands what it means.
 -- Assumes nothing.
 use mathlib.Core.Path.{_≡_, refl}
-use mathlib.Core.Bool.{Bool, true, false, cond}
+use mathlib.Core.Bool.{Bool, true, false, cond, _&&_}
 use mathlib.Core.List.{List, [], _∷_, _++_}
 use mathlib.Core.Logic.{_⊎_}
 use Prim.Native.Nat.{ℕ, suc, _+_, _<_, _≤_}
@@ -10,15 +10,18 @@ use lib.Dec.{eqb, ltb}
 use lib.ListN.{length, getD, take, drop}
 use Rattle.circuit.specs.Groups.{badGroup}
 use Rattle.circuit.specs.Refusals.{refuse}
-use Rattle.formats.specs.Octets.{badCode, firstBad}
+use Rattle.formats.specs.Format.{INDICATORS, COUNT}
+use Rattle.formats.specs.Messages.{formatOf}
+use Rattle.formats.specs.Octets.{badCode, firstBad, short}
 use Rattle.formats.proofs.Signals.{noneBefore, firstFits}
 use Rattle.reader.specs.declared.Fields.{Fields}
 use Rattle.reader.specs.Faults.{Fault, fault, rulesOf, placeOf}
+use Rattle.reader.specs.Places.{fieldBy, signalsBy}
 use Rattle.reader.specs.Reading.{fieldsOf}
-use Rattle.reader.specs.Stands.{CouldStand}
+use Rattle.reader.specs.Stands.{CouldStand, shortAnyway}
 use Rattle.reader.proofs.Faults.{lengthPlace}
 use Rattle.reader.proofs.Stands.{stands}
-use Rattle.reader.proofs.Spoils.{spoils}
+use Rattle.reader.proofs.Spoils.{spoils, shortForGood}
 use Rattle.text.specs.Lines.{refusedLine, plainLine, acmLine, iamLine}
 use Rattle.parts.specs.declared.Running.{Running}
 use Rattle.parts.specs.Whole.{Ahead.Takes, Ahead.Partial, Ahead.AtEnd, Stateless, noState}
@@ -41,17 +44,29 @@ module _ (own far count : ℕ) (xs : List ℕ) where
   pub lengthReceived : fieldsOf own far count xs .refusal ≡ 7 → fieldsOf own far count xs .place ≡ length xs
   lengthReceived = lengthPlace own far count xs
 
-  -- octets that could stand in a message that is read: some message begins with them, and is read in a group with these codes that has all 4096
-  -- circuits
-  pub couldStandMeans : (n : ℕ) (c : CouldStand own far xs n)
-      → ((i : ℕ) → getD (c .message) i 0 < 256) × (take n (c .message) ≡ take n xs) × (fieldsOf own far 4096 (c .message) .refusal ≡ 0)
-  couldStandMeans n c = (c .octets, c .begins, c .isRead)
+  -- octets that could stand in a message with some answer, in one that is read, say: some message begins with them, and is answered so in a group with
+  -- these codes that has all 4096 circuits
+  pub couldStandMeans : (n answer : ℕ) (c : CouldStand own far xs n answer)
+      → ((i : ℕ) → getD (c .message) i 0 < 256) × (take n (c .message) ≡ take n xs) × (fieldsOf own far 4096 (c .message) .refusal ≡ answer)
+  couldStandMeans n answer c = (c .octets, c .begins, c .isAnswered)
+
+  -- T-09: an international number of three signals, of which the third is at the place, and which begins with no operator's code
+  pub shortAnywayIs : (place : ℕ) → shortAnyway place xs
+      ≡ (eqb place 10 && (eqb (fieldBy (formatOf 0x11) COUNT xs) 3 && short (fieldBy (formatOf 0x11) INDICATORS xs) (signalsBy (formatOf 0x11) xs)))
+  shortAnywayIs place = refl
 
   module _ (octets : (i : ℕ) → getD xs i 0 < 256) where
-    -- any other refusal in a good group names an octet of the message, and those before it could stand in a message that is read, but for its circuit
+    -- any other refusal in a good group names an octet of the message, and those before it could stand in a message that is read, but for its circuit;
+    -- only where they begin a number that is short anyway it is one that is refused 17
     pub beforeThePlace : badGroup own far count ≡ false → (fieldsOf own far count xs .refusal ≡ 7 → ⊥)
-        → CouldStand own far xs (fieldsOf own far count xs .place) × (fieldsOf own far count xs .place < length xs)
+        → let place = fieldsOf own far count xs .place in
+        CouldStand own far xs place (cond (shortAnyway place xs) 17 0) × (place < length xs)
     beforeThePlace = stands own far count xs octets
+
+    -- for then none that begins with them is read, in any group with these codes
+    pub neverReadAnyway : getD xs 5 0 ≡ 0x11 → shortAnyway 10 xs ≡ true → (theirs : ℕ) (ys : List ℕ) → ((i : ℕ) → getD ys i 0 < 256) → take 10 ys ≡ take 10 xs
+        → fieldsOf own far theirs ys .refusal ≡ 0 → ⊥
+    neverReadAnyway iam e theirs ys others = shortForGood own far theirs xs ys octets others iam e
 
     -- and with the octet that 9 or 10 names they could not: no message that begins with all of them is read, in any group with these codes
     pub upToThePlace : (fieldsOf own far count xs .refusal ≡ 9) ⊎ (fieldsOf own far count xs .refusal ≡ 10)

@@ -1,13 +1,15 @@
 -- What later requests added: T-01, release ranks (docs/RULES.md, "Release ranks"), T-02, the choice of a circuit ("Choice of a circuit"), T-03,
--- nonsense before address complete ("Signals that arrive"), and T-06, the rules as a constant table ("Forms in the code").
+-- nonsense before address complete ("Signals that arrive"), T-06, the rules as a constant table ("Forms in the code"), and T-09, short international
+-- numbers ("Messages on the link"). T-05 has a page of its own, `Places`.
 -- Assumes nothing.
-use mathlib.Core.Path.{_≡_, refl, sym, ap, subst}
+use mathlib.Core.Path.{_≡_, refl, sym, ap, _∙_, subst}
 use mathlib.Core.Bool.{Bool, true, false, not, cond, _&&_, _||_}
-use mathlib.Core.List.{List, [], _∷_}
+use mathlib.Core.List.{List, [], _∷_, map}
 use mathlib.Core.Logic.{_↔_, _⊎_, inl, inr}
-use Prim.Native.Nat.{ℕ, suc, _+_, _<_, _≤_, _^_}
+use Prim.Native.Nat.{ℕ, suc, _+_, _%_, _<_, _≤_, _^_}
 use native.Mathlib.Omega.{arith}
-use lib.Dec.{T, eqb, leb}
+use borrow.Author.Tests.{ne-eqb}
+use lib.Dec.{T, eqb, leb, ltb}
 use lib.ListN.{length}
 use Rattle.circuit.specs.declared.Record.{Record}
 use Rattle.circuit.specs.declared.Signal.{Signal}
@@ -16,14 +18,14 @@ use Rattle.circuit.specs.declared.Sends.the-variants.{Nothing, One}
 use Rattle.circuit.specs.declared.Outcome.{Outcome}
 use Rattle.circuit.specs.declared.Command.the-variants.{Seize}
 use Rattle.circuit.specs.declared.Event.{Event}
-use Rattle.circuit.specs.declared.Event.the-variants.{Arrives, Ordered}
+use Rattle.circuit.specs.declared.Event.the-variants.{Arrives, Ordered, RunsOut}
 use Rattle.circuit.specs.Records.{rec, valid}
 use Rattle.circuit.specs.Rows.{first, answered, discarded}
 use Rattle.circuit.specs.Groups.{badGroup, controls}
 use Rattle.circuit.specs.Refusals.{Rule, refuse, firstOf, Given}
 use Rattle.circuit.proofs.Every.{isTrue}
 use Rattle.codes.specs.declared.Found.{Found}
-use Rattle.codes.specs.declared.Found.the-variants.{Is}
+use Rattle.codes.specs.declared.Found.the-variants.{Is, Missing}
 use Rattle.words.specs.Words.{largest}
 use Rattle.step.specs.Step.{step}
 use Rattle.step.specs.Frees.{freed, frees}
@@ -38,11 +40,13 @@ use Rattle.select.specs.First.{some}
 use Rattle.select.specs.Selection.{qualifies, selectIn}
 use Rattle.select.proofs.First.{someAt, noneAt}
 use Rattle.select.proofs.Laws as choices
-use Rattle.circuit.proofs.Refusals.{answered as givenExactly}
+use Rattle.circuit.proofs.Refusals.{everyNumber, answerFits, answered as givenExactly}
 use Rattle.codes.specs.declared.Named.the-variants.{Known}
+use Rattle.formats.specs.Octets.{besidesSt, toOperator, short}
 use Rattle.reader.specs.Reading.{reading}
 use Rattle.ends.specs.Ends.{End, end, EndsCome}
 use Rattle.exchanges.specs.Link.{Message, Exchange, exchange, ExchangesCome}
+use Rattle.promises.specs.Demand1.{eventRules, eventRefused}
 use Rattle.promises.specs.Demand3.{Never, neverNext}
 use Rattle.promises.specs.Demand3Link.{neverAtHead}
 
@@ -285,3 +289,43 @@ numbersMean = (refl, refl, refl, refl, refl, refl)
 -- no two of them mean the same
 pub numbersApart : (n m : ℕ) → T (isNumber n) → T (isNumber m) → meaning n ≡ meaning m → n ≡ m
 numbersApart = apart
+
+-- T-09. SHORT INTERNATIONAL NUMBERS
+
+-- When a reader and a writer refuse 17 is in their tables of `Demand1`. A number is short where the nature of address, the two lowest indicators, is 3 and
+-- there are fewer than four signals besides ST, unless the first is code 11 or 12.
+pub shortIs : (indicators : ℕ) (address : List ℕ) → short indicators address ≡ (eqb (indicators % 4) 3 && (ltb (besidesSt address) 4 && not (toOperator address)))
+unfolding short
+shortIs indicators address = refl
+
+pub besidesStIs : (code : ℕ) (rest : List ℕ) → (besidesSt [] ≡ 0) × (besidesSt (15 ∷ rest) ≡ besidesSt rest) × ((code ≡ 15 → ⊥) → besidesSt (code ∷ rest) ≡ suc (besidesSt rest))
+besidesStIs code rest = (refl, refl, λ other. ap (λ (st : Bool). cond st (besidesSt rest) (suc (besidesSt rest))) (ne-eqb code 15 other))
+
+pub toOperatorIs : (code : ℕ) (rest : List ℕ) → (toOperator [] ≡ false) × (toOperator (code ∷ rest) ≡ (eqb code 11 || eqb code 12))
+toOperatorIs code rest = (refl, refl)
+
+-- of these, with indicators 3, the third, the fifth and the sixth are long enough or go to an operator; of 1 2 3 with these indicators the first three
+pub numbersShort : map (short 3) ((1 ∷ 2 ∷ 3 ∷ []) ∷ (1 ∷ 2 ∷ 3 ∷ 15 ∷ []) ∷ (1 ∷ 2 ∷ 3 ∷ 4 ∷ []) ∷ (15 ∷ []) ∷ (11 ∷ []) ∷ (12 ∷ 15 ∷ []) ∷ (1 ∷ 11 ∷ 2 ∷ []) ∷ [])
+    ≡ true ∷ true ∷ false ∷ true ∷ false ∷ false ∷ true ∷ []
+unfolding short
+numbersShort = refl
+
+pub naturesShort : map (λ (indicators : ℕ). short indicators (1 ∷ 2 ∷ 3 ∷ [])) (0 ∷ 1 ∷ 2 ∷ 3 ∷ 7 ∷ 11 ∷ 2047 ∷ []) ≡ false ∷ false ∷ false ∷ true ∷ true ∷ true ∷ true ∷ []
+unfolding short
+naturesShort = refl
+
+-- an event says nothing of indicators, and is never refused 17; nor is a choice
+abbrev other : (refusal : ℕ) → Bool
+other refusal = not (eqb refusal 17)
+
+pub eventsNever17 : (own far : ℕ) (table : List ℕ) (cic : ℕ) (event : Found) → stepIn own far table cic event .answer .refusal ≡ 17 → ⊥
+eventsNever17 own far table cic event e = answerFits other (eventRules own far table cic event) (noneIs event) 16 (sym (eventRefused own far table cic event) ∙ e)
+  where
+    noneIs : (event : Found) → T (everyNumber other (eventRules own far table cic event))
+    noneIs Missing = tt
+    noneIs (Is (Arrives s)) = tt
+    noneIs (Is (Ordered k)) = tt
+    noneIs (Is (RunsOut t)) = tt
+
+pub choicesNever17 : (own far : ℕ) (table : List ℕ) → selectIn own far table .refusal ≡ 17 → ⊥
+choicesNever17 own far table e = answerFits other (choiceRules own far table) tt 16 (sym (choiceRefused own far table) ∙ e)

@@ -14,7 +14,7 @@ use Rattle.circuit.specs.declared.Cic.{Cic}
 use Rattle.reader.specs.declared.Fields.{Fields}
 use Rattle.formats.specs.Format.{Format, octetsFor, fieldOctet, signalOctet, CATEGORY, INDICATORS, COUNT, above, getEach, contentIn}
 use Rattle.formats.specs.Messages.{iamFormat, amongOwn, ownFormats, headed, formatOf, hasSignals, fixedLength, listed, isIam, isAcm, half}
-use Rattle.formats.specs.Octets.{badCode, badCodes, firstBad}
+use Rattle.formats.specs.Octets.{badCode, badCodes, firstBad, short}
 use Rattle.formats.specs.Way.{halves}
 use Rattle.formats.proofs.ByHeading.{anAcm, neither, signalsOfIam, iamOctets, signalOctets, fixedLengths}
 use Rattle.formats.proofs.Places.{dpcThere, opcThere, cicThere, headingThere, acmThere, categoryThere, indicatorsThere, countThere, behindIam, signalsThere}
@@ -24,13 +24,13 @@ use Rattle.words.specs.Octets.{numberOf, over}
 use Rattle.reader.specs.Faults.{fault}
 use Rattle.reader.specs.Places.{cicIn, headingIn, fieldBy, signalsBy}
 use Rattle.reader.specs.Reading.{elsewhere, unfit, strayOctet, bodyFaults, noCodes, refused, fieldsFrom, fieldsIn, judged, fieldsOf}
-use Rattle.reader.specs.Way.{bodyOf, plainFields}
+use Rattle.reader.specs.Way.{bodyOf, plainFields, iamFields}
 use Rattle.reader.proofs.Signals.{length-halves}
 
--- the reader's last six tests, and the places that are not the same for every message
-module _ (f : Fields) (len counts spoils : ℕ) (b₀ b₁ b₂ b₃ b₄ b₅ : Bool) where
+-- the reader's last seven tests, and the places that are not the same for every message
+module _ (f : Fields) (len counts spoils : ℕ) (b₀ b₁ b₂ b₃ b₄ b₅ b₆ : Bool) where
   abbrev tested : Fields
-  tested = judged (fault 9 b₀ 5 ∷ fault 7 b₁ len ∷ fault 10 b₂ counts ∷ fault 7 b₃ len ∷ fault 10 b₄ spoils ∷ fault 2 b₅ 3 ∷ []) f
+  tested = judged (fault 9 b₀ 5 ∷ fault 7 b₁ len ∷ fault 10 b₂ counts ∷ fault 7 b₃ len ∷ fault 10 b₄ spoils ∷ fault 17 b₅ counts ∷ fault 2 b₆ 3 ∷ []) f
 
   at0 : b₀ ≡ true → tested ≡ refused 9 5
   at0 e = rw e
@@ -47,11 +47,14 @@ module _ (f : Fields) (len counts spoils : ℕ) (b₀ b₁ b₂ b₃ b₄ b₅ :
   at4 : b₀ ≡ false → b₁ ≡ false → b₂ ≡ false → b₃ ≡ false → b₄ ≡ true → tested ≡ refused 10 spoils
   at4 e₀ e₁ e₂ e₃ e = rw (e₀, e₁, e₂, e₃, e)
 
-  at5 : b₀ ≡ false → b₁ ≡ false → b₂ ≡ false → b₃ ≡ false → b₄ ≡ false → b₅ ≡ true → tested ≡ refused 2 3
+  at5 : b₀ ≡ false → b₁ ≡ false → b₂ ≡ false → b₃ ≡ false → b₄ ≡ false → b₅ ≡ true → tested ≡ refused 17 counts
   at5 e₀ e₁ e₂ e₃ e₄ e = rw (e₀, e₁, e₂, e₃, e₄, e)
 
-  at6 : b₀ ≡ false → b₁ ≡ false → b₂ ≡ false → b₃ ≡ false → b₄ ≡ false → b₅ ≡ false → tested ≡ f
-  at6 e₀ e₁ e₂ e₃ e₄ e = rw (e₀, e₁, e₂, e₃, e₄, e)
+  at6 : b₀ ≡ false → b₁ ≡ false → b₂ ≡ false → b₃ ≡ false → b₄ ≡ false → b₅ ≡ false → b₆ ≡ true → tested ≡ refused 2 3
+  at6 e₀ e₁ e₂ e₃ e₄ e₅ e = rw (e₀, e₁, e₂, e₃, e₄, e₅, e)
+
+  at7 : b₀ ≡ false → b₁ ≡ false → b₂ ≡ false → b₃ ≡ false → b₄ ≡ false → b₅ ≡ false → b₆ ≡ false → tested ≡ f
+  at7 e₀ e₁ e₂ e₃ e₄ e₅ e = rw (e₀, e₁, e₂, e₃, e₄, e₅, e)
 
 -- a length that does not fit the heading, by the letter
 pub unfitLength : (h len : ℕ) → unfit h len ≡ cond (isIam h) (ltb len 9) (not (eqb len (cond (isAcm h) 7 6)))
@@ -88,22 +91,25 @@ module _ (records h : ℕ) (xs : List ℕ) (other : isIam h ≡ false) where
   abbrev o₄ : Bool
   o₄ = hasSignals h && badCodes (signalsBy (formatOf h) xs)
 
+  abbrev o₅ : Bool
+  o₅ = hasSignals h && short (fieldBy (formatOf h) INDICATORS xs) (signalsBy (formatOf h) xs)
+
   unlisted : listed h ≡ false → bodyOf records h xs ≡ refused 9 5
   unfolding bodyOf
-  unlisted e = at0 (fieldsIn h xs) (length xs) c₂ c₄ (not (listed h)) (unfit h (length xs)) o₂ o₃ o₄ (leb records (cicIn xs)) (ap not e)
+  unlisted e = at0 (fieldsIn h xs) (length xs) c₂ c₄ (not (listed h)) (unfit h (length xs)) o₂ o₃ o₄ o₅ (leb records (cicIn xs)) (ap not e)
 
   long : listed h ≡ true → (length xs ≡ fixedLength h → ⊥) → bodyOf records h xs ≡ refused 7 (length xs)
   unfolding bodyOf
-  long e n = at1 (fieldsIn h xs) (length xs) c₂ c₄ (not (listed h)) (unfit h (length xs)) o₂ o₃ o₄ (leb records (cicIn xs)) (ap not e) (fit ∙ ap not (ne-eqb _ _ n))
+  long e n = at1 (fieldsIn h xs) (length xs) c₂ c₄ (not (listed h)) (unfit h (length xs)) o₂ o₃ o₄ o₅ (leb records (cicIn xs)) (ap not e) (fit ∙ ap not (ne-eqb _ _ n))
 
   beyond : listed h ≡ true → length xs ≡ fixedLength h → records ≤ cicIn xs → bodyOf records h xs ≡ refused 2 3
   unfolding bodyOf
-  beyond e n r = at5 (fieldsIn h xs) (length xs) c₂ c₄ (not (listed h)) (unfit h (length xs)) o₂ o₃ o₄ (leb records (cicIn xs)) (ap not e) (fit ∙ ap not (eq-eqb _ _ n)) (never _) (never _) (never _) (le-leb _ _ r)
+  beyond e n r = at6 (fieldsIn h xs) (length xs) c₂ c₄ (not (listed h)) (unfit h (length xs)) o₂ o₃ o₄ o₅ (leb records (cicIn xs)) (ap not e) (fit ∙ ap not (eq-eqb _ _ n)) (never _) (never _) (never _) (never _) (le-leb _ _ r)
 
   pub taken : listed h ≡ true → length xs ≡ fixedLength h → cicIn xs < records → bodyOf records h xs ≡ fieldsIn h xs
   unfolding bodyOf
   taken e n r =
-      at6 (fieldsIn h xs) (length xs) c₂ c₄ (not (listed h)) (unfit h (length xs)) o₂ o₃ o₄ (leb records (cicIn xs)) (ap not e) (fit ∙ ap not (eq-eqb _ _ n)) (never _) (never _) (never _) (lt-leb _ _ r)
+      at7 (fieldsIn h xs) (length xs) c₂ c₄ (not (listed h)) (unfit h (length xs)) o₂ o₃ o₄ o₅ (leb records (cicIn xs)) (ap not e) (fit ∙ ap not (eq-eqb _ _ n)) (never _) (never _) (never _) (never _) (lt-leb _ _ r)
 
 -- the same where the length was looked up
 module _ (records h : ℕ) (xs : List ℕ) (octets : (i : ℕ) → getD xs i 0 < 256) (differs : h ≡ 0x11 → ⊥) (fixed : ℕ) (is : fixed ≡ cond (listed h) (fixedLength h) 0) where
@@ -143,6 +149,9 @@ module _ (records : ℕ) (xs : List ℕ) where
   abbrev address : List ℕ
   address = signalsBy (formatOf 0x11) xs
 
+  abbrev indicated : ℕ
+  indicated = fieldBy (formatOf 0x11) INDICATORS xs
+
   -- the octet of the first signal that is refused
   abbrev s₄ : ℕ
   s₄ = signalOctet (formatOf 0x11) (firstBad address)
@@ -160,39 +169,50 @@ module _ (records : ℕ) (xs : List ℕ) where
   t₄ = badCodes address
 
   abbrev t₅ : Bool
-  t₅ = leb records (cicIn xs)
+  t₅ = short indicated address
 
-  pub iam-short : length xs < 9 → bodyOf records 0x11 xs ≡ refused 7 (length xs)
+  abbrev t₆ : Bool
+  t₆ = leb records (cicIn xs)
+
+  pub iam-cut : length xs < 9 → bodyOf records 0x11 xs ≡ refused 7 (length xs)
   unfolding bodyOf
-  iam-short h = at1 (fieldsIn 0x11 xs) (length xs) 8 s₄ false t₁ t₂ t₃ t₄ t₅ refl (lt-ltb _ _ h)
+  iam-cut h = at1 (fieldsIn 0x11 xs) (length xs) 8 s₄ false t₁ t₂ t₃ t₄ t₅ t₆ refl (lt-ltb _ _ h)
 
   module _ (h : 9 ≤ length xs) where
     iam-empty : counted ≡ 0 → bodyOf records 0x11 xs ≡ refused 10 8
     unfolding bodyOf
-    iam-empty z = at2 (fieldsIn 0x11 xs) (length xs) 8 s₄ false t₁ t₂ t₃ t₄ t₅ refl (le-ltb _ _ h) (eq-eqb _ _ z)
+    iam-empty z = at2 (fieldsIn 0x11 xs) (length xs) 8 s₄ false t₁ t₂ t₃ t₄ t₅ t₆ refl (le-ltb _ _ h) (eq-eqb _ _ z)
 
     module _ (z : counted ≡ 0 → ⊥) where
       iam-long : (length xs ≡ octetsFor (formatOf 0x11) counted → ⊥) → bodyOf records 0x11 xs ≡ refused 7 (length xs)
       unfolding bodyOf
-      iam-long n = at3 (fieldsIn 0x11 xs) (length xs) 8 s₄ false t₁ t₂ t₃ t₄ t₅ refl (le-ltb _ _ h) (ne-eqb _ _ z) (ap not (ne-eqb _ _ n))
+      iam-long n = at3 (fieldsIn 0x11 xs) (length xs) 8 s₄ false t₁ t₂ t₃ t₄ t₅ t₆ refl (le-ltb _ _ h) (ne-eqb _ _ z) (ap not (ne-eqb _ _ n))
 
       module _ (n : length xs ≡ octetsFor (formatOf 0x11) counted) where
         iam-codes : badCodes address ≡ true → bodyOf records 0x11 xs ≡ refused 10 s₄
         unfolding bodyOf
-        iam-codes b = at4 (fieldsIn 0x11 xs) (length xs) 8 s₄ false t₁ t₂ t₃ t₄ t₅ refl (le-ltb _ _ h) (ne-eqb _ _ z) (ap not (eq-eqb _ _ n)) b
+        iam-codes b = at4 (fieldsIn 0x11 xs) (length xs) 8 s₄ false t₁ t₂ t₃ t₄ t₅ t₆ refl (le-ltb _ _ h) (ne-eqb _ _ z) (ap not (eq-eqb _ _ n)) b
 
-        iam-beyond : badCodes address ≡ false → records ≤ cicIn xs → bodyOf records 0x11 xs ≡ refused 2 3
-        unfolding bodyOf
-        iam-beyond b r = at5 (fieldsIn 0x11 xs) (length xs) 8 s₄ false t₁ t₂ t₃ t₄ t₅ refl (le-ltb _ _ h) (ne-eqb _ _ z) (ap not (eq-eqb _ _ n)) b (le-leb _ _ r)
+        module _ (b : badCodes address ≡ false) where
+          pub iam-few : short indicated address ≡ true → bodyOf records 0x11 xs ≡ refused 17 8
+          unfolding bodyOf
+          iam-few f = at5 (fieldsIn 0x11 xs) (length xs) 8 s₄ false t₁ t₂ t₃ t₄ t₅ t₆ refl (le-ltb _ _ h) (ne-eqb _ _ z) (ap not (eq-eqb _ _ n)) b f
 
-        pub iam-taken : badCodes address ≡ false → cicIn xs < records → bodyOf records 0x11 xs ≡ fieldsIn 0x11 xs
-        unfolding bodyOf
-        iam-taken b r = at6 (fieldsIn 0x11 xs) (length xs) 8 s₄ false t₁ t₂ t₃ t₄ t₅ refl (le-ltb _ _ h) (ne-eqb _ _ z) (ap not (eq-eqb _ _ n)) b (lt-leb _ _ r)
+          iam-beyond : short indicated address ≡ false → records ≤ cicIn xs → bodyOf records 0x11 xs ≡ refused 2 3
+          unfolding bodyOf
+          iam-beyond f r = at6 (fieldsIn 0x11 xs) (length xs) 8 s₄ false t₁ t₂ t₃ t₄ t₅ t₆ refl (le-ltb _ _ h) (ne-eqb _ _ z) (ap not (eq-eqb _ _ n)) b f (le-leb _ _ r)
+
+          pub iam-taken : short indicated address ≡ false → cicIn xs < records → bodyOf records 0x11 xs ≡ fieldsIn 0x11 xs
+          unfolding bodyOf
+          iam-taken f r = at7 (fieldsIn 0x11 xs) (length xs) 8 s₄ false t₁ t₂ t₃ t₄ t₅ t₆ refl (le-ltb _ _ h) (ne-eqb _ _ z) (ap not (eq-eqb _ _ n)) b f (lt-leb _ _ r)
 
 -- the same of an IAM whose two octets were read as the number w
 module _ (records : ℕ) (xs : List ℕ) (octets : (i : ℕ) → getD xs i 0 < 256) (w : ℕ) (is : w ≡ numberOf (getD xs 7 0 ∷ getD xs 8 0 ∷ [])) where
   count : counted records xs ≡ w / 4096
   count = countThere xs octets ∙ ap (λ (v : ℕ). v / 4096) (sym is)
+
+  told : indicated records xs ≡ w % 2048
+  told = indicatorsThere xs octets ∙ ap (λ (v : ℕ). v % 2048) (sym is)
 
   pub empty : 9 ≤ length xs → w / 4096 ≡ 0 → bodyOf records 0x11 xs ≡ refused 10 8
   empty h z = iam-empty records xs h (count ∙ z)
@@ -207,70 +227,83 @@ module _ (records : ℕ) (xs : List ℕ) (octets : (i : ℕ) → getD xs i 0 < 2
     pub too-long : (length xs ≡ 9 + half (w / 4096) → ⊥) → bodyOf records 0x11 xs ≡ refused 7 (length xs)
     too-long n = iam-long records xs h some (λ e. n (e ∙ octetsCounted))
 
-    module _ (n : length xs ≡ 9 + half (w / 4096)) (codes : List ℕ) (c : codes ≡ over (take (w / 4096) (halves (drop 9 xs))) noCodes) where
-      whole : length xs ≡ octetsFor (formatOf 0x11) (counted records xs)
-      whole = n ∙ sym octetsCounted
+-- the same of one that has the octets which its count asks for, and whose codes were read
+pub record Spelt (xs : List ℕ) (w : ℕ) (codes : List ℕ) : Type 0 where
+  pub octets : (i : ℕ) → getD xs i 0 < 256
+  pub word : w ≡ numberOf (getD xs 7 0 ∷ getD xs 8 0 ∷ [])
+  pub nine : 9 ≤ length xs
+  pub some : w / 4096 ≡ 0 → ⊥
+  pub long : length xs ≡ 9 + half (w / 4096)
+  pub signals : codes ≡ over (take (w / 4096) (halves (drop 9 xs))) noCodes
 
-      enough : w / 4096 ≤ 2 * length (drop 9 xs)
-      enough = omega (arith, length-drop 9 xs)
+module _ (records : ℕ) (xs : List ℕ) (w : ℕ) (codes : List ℕ) (k : Spelt xs w codes) where
+  abbrev c : ℕ
+  c = w / 4096
 
-      -- so many signals are there
-      how-many : length (take (w / 4096) (halves (drop 9 xs))) ≡ w / 4096
-      how-many = length-take-le (w / 4096) (halves (drop 9 xs)) (omega (arith, length-halves (drop 9 xs), length-drop 9 xs))
+  z : counted records xs ≡ 0 → ⊥
+  z = some records xs (k .octets) w (k .word) (k .nine) (k .some)
 
-      pub room : w / 4096 ≤ length codes
-      room = rw (c, length-append, how-many) (omega arith)
+  whole : length xs ≡ octetsFor (formatOf 0x11) (counted records xs)
+  whole = k .long ∙ sym (octetsCounted records xs (k .octets) w (k .word) (k .nine) (k .some))
 
-      pub prefix : w / 4096 ≡ length (take (w / 4096) codes)
-      prefix = sym (length-take-le (w / 4096) codes room)
+  enough : c ≤ 2 * length (drop 9 xs)
+  enough = let l = k .long in omega (arith, length-drop 9 xs)
 
-      there : address records xs ≡ take (w / 4096) (halves (drop 9 xs))
-      there =
-          ap (λ (v : ℕ). getEach 4 v (above (headed iamFormat .fields) (numberOf xs))) count
-          ∙ ap (getEach 4 (w / 4096)) (behindIam xs octets)
-          ∙ signalsThere (w / 4096) (drop 9 xs) (λ i m. rw (getD-drop 9 xs i 0) (octets (9 + i))) enough
+  -- so many signals are there
+  how-many : length (take c (halves (drop 9 xs))) ≡ c
+  how-many = length-take-le c (halves (drop 9 xs)) (let l = k .long in omega (arith, length-halves (drop 9 xs), length-drop 9 xs))
 
-      the-address : take (w / 4096) codes ≡ address records xs
-      the-address =
-          ap (take (w / 4096)) c ∙ take-at (take (w / 4096) (halves (drop 9 xs))) (drop (length (take (w / 4096) (halves (drop 9 xs)))) noCodes) (w / 4096) how-many
-          ∙ sym there
+  pub room : c ≤ length codes
+  room = rw (k .signals, length-append, how-many) (omega arith)
 
-      -- the first signal that is refused, as the program looks for it
-      module _ (bad : ℕ) (first : bad ≡ firstBad (take (w / 4096) codes)) where
-        sooner : badCodes (address records xs) ≡ ltb bad (w / 4096)
-        sooner = sym (ap badCodes the-address) ∙ someBefore badCode (take (w / 4096) codes) ∙ ap₂ ltb (sym first) (sym prefix)
+  pub prefix : c ≡ length (take c codes)
+  prefix = sym (length-take-le c codes room)
 
-        its-octet : s₄ records xs ≡ 9 + bad / 2
-        its-octet = ap (λ (l : List ℕ). signalOctet (formatOf 0x11) (firstBad l)) (sym the-address) ∙ ap (signalOctet (formatOf 0x11)) (sym first) ∙ signalOctets bad
+  there : address records xs ≡ take c (halves (drop 9 xs))
+  there =
+      ap (λ (v : ℕ). getEach 4 v (above (headed iamFormat .fields) (numberOf xs))) (count records xs (k .octets) w (k .word))
+      ∙ ap (getEach 4 c) (behindIam xs (k .octets))
+      ∙ signalsThere c (drop 9 xs) (λ i m. rw (getD-drop 9 xs i 0) (k .octets (9 + i))) enough
 
-        pub spoilt : bad < w / 4096 → bodyOf records 0x11 xs ≡ refused 10 (9 + bad / 2)
-        spoilt b = iam-codes records xs h some whole (sooner ∙ lt-ltb _ _ b) ∙ ap (refused 10) its-octet
+  the-address : take c codes ≡ address records xs
+  the-address = ap (take c) (k .signals) ∙ take-at (take c (halves (drop 9 xs))) (drop (length (take c (halves (drop 9 xs)))) noCodes) c how-many ∙ sym there
 
-        pub unspoilt : w / 4096 ≤ bad → badCodes (address records xs) ≡ false
-        unspoilt b = sooner ∙ le-ltb _ _ b
+  -- the first signal that is refused, as the program looks for it
+  module _ (bad : ℕ) (first : bad ≡ firstBad (take c codes)) where
+    sooner : badCodes (address records xs) ≡ ltb bad c
+    sooner = sym (ap badCodes the-address) ∙ someBefore badCode (take c codes) ∙ ap₂ ltb (sym first) (sym prefix)
 
-      module _ (b : badCodes (address records xs) ≡ false) where
-        pub no-circuit : records ≤ cicIn xs → bodyOf records 0x11 xs ≡ refused 2 3
-        no-circuit r = iam-beyond records xs h some whole b r
+    its-octet : s₄ records xs ≡ 9 + bad / 2
+    its-octet = ap (λ (l : List ℕ). signalOctet (formatOf 0x11) (firstBad l)) (sym the-address) ∙ ap (signalOctet (formatOf 0x11)) (sym first) ∙ signalOctets bad
 
-        pub read-whole : (circuit : Cic) → circuit .0 ≡ cicIn xs → circuit .0 < records
-            → bodyOf records 0x11 xs ≡ record { refusal = 0; place = 0; circuit = circuit; heading = 0x11; acm = 0; category = getD xs 6 0 % 64; indicators = w % 2048; count = w / 4096; address = codes }
-        read-whole circuit k r =
-            iam-taken records xs h some whole b (rw k at r)
-            ∙ ap (λ (v : ℕ). made (record { 0 = v }) category indicators (counted records xs) (over (address records xs) noCodes)) (sym k)
-            ∙ ap (λ (v : ℕ). made circuit v indicators (counted records xs) (over (address records xs) noCodes)) (categoryThere xs octets)
-            ∙ ap (λ (v : ℕ). made circuit (getD xs 6 0 % 64) v (counted records xs) (over (address records xs) noCodes)) (indicatorsThere xs octets ∙ ap (λ (v : ℕ). v % 2048) (sym is))
-            ∙ ap (λ (v : ℕ). made circuit (getD xs 6 0 % 64) (w % 2048) v (over (address records xs) noCodes)) count
-            ∙ ap (made circuit (getD xs 6 0 % 64) (w % 2048) (w / 4096)) (sym (c ∙ ap (λ (l : List ℕ). over l noCodes) (sym there)))
-          where
-            category : ℕ
-            category = fieldBy (formatOf 0x11) CATEGORY xs
+    pub spoilt : bad < c → bodyOf records 0x11 xs ≡ refused 10 (9 + bad / 2)
+    spoilt b = iam-codes records xs (k .nine) z whole (sooner ∙ lt-ltb _ _ b) ∙ ap (refused 10) its-octet
 
-            indicators : ℕ
-            indicators = fieldBy (formatOf 0x11) INDICATORS xs
+    -- and whether the number is short, as it asks that
+    module _ (b : c ≤ bad) (few : Bool) (is : few ≡ short (w % 2048) (take c codes)) where
+      unspoilt : badCodes (address records xs) ≡ false
+      unspoilt = sooner ∙ le-ltb _ _ b
 
-            made : Cic → ℕ → ℕ → ℕ → List ℕ → Fields
-            made circuit category indicators count address = record { refusal = 0; place = 0; circuit = circuit; heading = 0x11; acm = 0; category = category; indicators = indicators; count = count; address = address }
+      asked : short (indicated records xs) (address records xs) ≡ few
+      asked = ap₂ short (told records xs (k .octets) w (k .word)) (sym the-address) ∙ sym is
+
+      pub too-few : few ≡ true → bodyOf records 0x11 xs ≡ refused 17 8
+      too-few e = iam-few records xs (k .nine) z whole unspoilt (asked ∙ e)
+
+      pub no-circuit : few ≡ false → records ≤ cicIn xs → bodyOf records 0x11 xs ≡ refused 2 3
+      no-circuit e r = iam-beyond records xs (k .nine) z whole unspoilt (asked ∙ e) r
+
+      pub read-whole : few ≡ false → (circuit : Cic) → circuit .0 ≡ cicIn xs → circuit .0 < records → bodyOf records 0x11 xs ≡ iamFields circuit (getD xs 6 0 % 64) (w % 2048) c codes
+      read-whole e circuit q r =
+          iam-taken records xs (k .nine) z whole unspoilt (asked ∙ e) (rw q at r)
+          ∙ ap (λ (v : ℕ). iamFields (record { 0 = v }) category (indicated records xs) (counted records xs) (over (address records xs) noCodes)) (sym q)
+          ∙ ap (λ (v : ℕ). iamFields circuit v (indicated records xs) (counted records xs) (over (address records xs) noCodes)) (categoryThere xs (k .octets))
+          ∙ ap (λ (v : ℕ). iamFields circuit (getD xs 6 0 % 64) v (counted records xs) (over (address records xs) noCodes)) (told records xs (k .octets) w (k .word))
+          ∙ ap (λ (v : ℕ). iamFields circuit (getD xs 6 0 % 64) (w % 2048) v (over (address records xs) noCodes)) (count records xs (k .octets) w (k .word))
+          ∙ ap (iamFields circuit (getD xs 6 0 % 64) (w % 2048) c) (sym (k .signals ∙ ap (λ (l : List ℕ). over l noCodes) (sym there)))
+        where
+          category : ℕ
+          category = fieldBy (formatOf 0x11) CATEGORY xs
 
 -- the first three tests
 module _ (own far records : ℕ) (xs : List ℕ) where
@@ -281,9 +314,9 @@ module _ (own far records : ℕ) (xs : List ℕ) where
   unfolding fieldsOf
   bad-group e = ap (λ (b : Bool). begun b (ltb (length xs) 6) (elsewhere own far xs)) e
 
-  pub short : badGroup own far records ≡ false → length xs < 6 → fieldsOf own far records xs ≡ refused 7 (length xs)
+  pub cut : badGroup own far records ≡ false → length xs < 6 → fieldsOf own far records xs ≡ refused 7 (length xs)
   unfolding fieldsOf
-  short e h = ap (λ (b : Bool). begun b (ltb (length xs) 6) (elsewhere own far xs)) e ∙ ap (λ (b : Bool). begun false b (elsewhere own far xs)) (lt-ltb _ _ h)
+  cut e h = ap (λ (b : Bool). begun b (ltb (length xs) 6) (elsewhere own far xs)) e ∙ ap (λ (b : Bool). begun false b (elsewhere own far xs)) (lt-ltb _ _ h)
 
   pub stray : badGroup own far records ≡ false → 6 ≤ length xs → elsewhere own far xs ≡ true → fieldsOf own far records xs ≡ refused 8 (strayOctet own xs)
   unfolding fieldsOf

@@ -1,4 +1,4 @@
--- What stands in a message's octets, by the letter: its count of address signals, and each of these.
+-- What stands in a message's octets, by the letter: its indicators, its count of address signals, and each of these.
 -- Assumes nothing.
 use mathlib.Core.Path.{_≡_, sym, _∙_, subst}
 use mathlib.Core.Bool.{true, cond}
@@ -9,11 +9,11 @@ use borrow.Author.Tests.{eqb-true}
 use lib.Dec.{eqb}
 use lib.ListN.{length, getD}
 use Rattle.words.specs.Octets.{numberOf}
-use Rattle.formats.specs.Format.{COUNT}
+use Rattle.formats.specs.Format.{INDICATORS, COUNT}
 use Rattle.formats.specs.Messages.{formatOf, hasSignals}
 use Rattle.formats.proofs.Format.{gotFits}
 use Rattle.formats.proofs.ByHeading.{signalsOfIam}
-use Rattle.formats.proofs.Places.{cicThere, countThere, iamSignal}
+use Rattle.formats.proofs.Places.{cicThere, indicatorsThere, countThere, iamSignal}
 use Rattle.reader.specs.Places.{cicIn, headingIn, fieldBy, signalsBy}
 
 -- the two octets of an IAM's indicators and count, and a signal
@@ -32,6 +32,9 @@ module _ (ys : List ℕ) (octets : (i : ℕ) → getD ys i 0 < 256) where
 
   pub counted : fieldBy (formatOf 0x11) COUNT ys ≡ wordIn ys / 4096
   counted = countThere ys octets
+
+  pub indicated : fieldBy (formatOf 0x11) INDICATORS ys ≡ wordIn ys % 2048
+  indicated = indicatorsThere ys octets
 
   pub long : length address ≡ wordIn ys / 4096
   long = sym (gotFits (formatOf 0x11) (numberOf ys) .counted) ∙ counted

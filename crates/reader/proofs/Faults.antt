@@ -103,7 +103,7 @@ module _ (own far records : ℕ) (xs : List ℕ) where
               (λ e n. absurd (omega arith)),
               (λ e. (
                 (λ e n. refl),
-                (λ e. ((λ e n. absurd (omega arith)), (λ e. ((λ e n. absurd (omega arith)), (λ e n. absurd (omega arith)))))),
+                (λ e. ((λ e n. absurd (omega arith)), (λ e. ((λ e n. absurd (omega arith)), (λ e. ((λ e n. absurd (omega arith)), (λ e n. absurd (omega arith)))))))),
               )),
             )),
           )),

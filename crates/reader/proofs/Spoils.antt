@@ -1,4 +1,5 @@
--- Where a refusal names the octet of the heading, the count or a signal, no message is read that begins with the octets up to that one and with it.
+-- Where a refusal names the octet of the heading, the count or a signal, no message is read that begins with the octets up to that one and with it;
+-- nor is one that begins as a number which is short whatever follows.
 -- Assumes nothing.
 use mathlib.Core.Path.{_≡_, refl, sym, ap, ap₂, _∙_, subst}
 use mathlib.Core.Bool.{Bool, true, false, cond, not, _&&_, _||_}
@@ -6,7 +7,7 @@ use mathlib.Core.List.{List, [], _∷_}
 use mathlib.Core.Logic.{_⊎_, ⊎-elim}
 use Prim.Native.Nat.{ℕ, suc, _+_, _-_, _/_, _%_, _<_, _≤_}
 use native.Mathlib.Omega.{arith}
-use borrow.Author.Tests.{ltb-true}
+use borrow.Author.Tests.{ltb-true, eqb-true}
 use lib.Dec.{T, eqb, ltb}
 use lib.ListN.{length, getD, take}
 use lib.Seq.{getD-take}
@@ -15,16 +16,18 @@ use Rattle.circuit.specs.Refusals.{Clear}
 use Rattle.circuit.proofs.Refusals.{clear}
 use Rattle.reader.specs.declared.Fields.{Fields}
 use Rattle.words.specs.Octets.{numberOf}
-use Rattle.formats.specs.Format.{COUNT, signalOctet}
+use Rattle.formats.specs.Format.{INDICATORS, COUNT, signalOctet}
 use Rattle.formats.specs.Messages.{formatOf, hasSignals, listed}
-use Rattle.formats.specs.Octets.{badCode, badCodes, firstBad}
+use Rattle.formats.specs.Octets.{badCode, badCodes, firstBad, short}
 use Rattle.formats.proofs.ByHeading.{signalOctets, countOctet}
+use Rattle.formats.proofs.Few.{sameFirst}
 use Rattle.formats.proofs.Places.{headingThere}
 use Rattle.formats.proofs.Signals.{someBefore, eachPasses, firstFits}
 use Rattle.reader.specs.Places.{headingIn, fieldBy, signalsBy}
 use Rattle.reader.specs.Reading.{readFaults, readRules, fieldsIn, fieldsOf}
+use Rattle.reader.specs.Stands.{shortAnyway}
 use Rattle.reader.proofs.Faults.{cases, readRefusal}
-use Rattle.reader.proofs.ByLetter.{wordIn, address, counted, long, its, iamIn}
+use Rattle.reader.proofs.ByLetter.{wordIn, address, counted, indicated, long, its, iamIn}
 
 -- octets that the reader takes in some group with these codes, and that begin with the same
 module _ (own far theirs : ℕ) (xs ys : List ℕ) (octets : (i : ℕ) → getD xs i 0 < 256) (octets′ : (i : ℕ) → getD ys i 0 < 256) (p : ℕ) (same : take (suc p) ys ≡ take (suc p) xs)
@@ -47,8 +50,11 @@ module _ (own far theirs : ℕ) (xs ys : List ℕ) (octets : (i : ℕ) → getD 
     its-iam : headingIn ys ≡ 0x11
     its-iam = sameHeading (omega arith) ∙ iam
 
+    sameWords : wordIn ys ≡ wordIn xs
+    sameWords = ap₂ (λ (a b : ℕ). numberOf (a ∷ b ∷ [])) (alike 7 (omega arith)) (alike 8 (omega arith))
+
     sameWord : wordIn ys / 4096 ≡ wordIn xs / 4096
-    sameWord = ap₂ (λ (a b : ℕ). numberOf (a ∷ b ∷ []) / 4096) (alike 7 (omega arith)) (alike 8 (omega arith))
+    sameWord = ap (λ (w : ℕ). w / 4096) sameWords
 
     notEmpty : eqb (fieldBy (formatOf 0x11) COUNT xs) 0 ≡ true → ⊥
     notEmpty e =
@@ -69,6 +75,24 @@ module _ (own far theirs : ℕ) (xs ys : List ℕ) (octets : (i : ℕ) → getD 
         (its xs octets i k ∙ ap (λ (o : ℕ). cond (eqb (i % 2) 0) (o % 16) (o / 16)) (sym (alike (9 + i / 2) (omega arith))) ∙ sym (its ys octets′ i m))
         (long xs octets ∙ sym sameWord ∙ sym (long ys octets′))
         ∙ eachPasses badCode (address ys octets′) ordered i (subst (λ (n : ℕ). i < n) (sym (long ys octets′)) m)) tt
+
+    -- and is not short: where there are three signals, the first tells that
+    notShort : 9 ≤ p → wordIn xs / 4096 ≡ 3 → short (wordIn xs % 2048) (address xs octets) ≡ true → ⊥
+    notShort nine three few =
+        subst T (sym few ∙ sym (sameFirst (wordIn xs % 2048) (address xs octets) (address ys octets′) (omega (arith, long xs octets)) (long ys octets′ ∙ sameWord ∙ sym (long xs octets)) first)
+        ∙ ap (λ (w : ℕ). short w (address ys octets′)) (ap (λ (w : ℕ). w % 2048) (sym sameWords) ∙ sym (indicated ys octets′))
+        ∙ subst (λ (h : ℕ). (hasSignals h && short (fieldBy (formatOf h) INDICATORS ys) (signalsBy (formatOf h) ys)) ≡ false) its-iam (tests .1 .1 .1 .1 .1 .1 .1 .1 .0)) tt
+      where
+        first : getD (address ys octets′) 0 0 ≡ getD (address xs octets) 0 0
+        first = its ys octets′ 0 (omega (arith, sameWord)) ∙ ap (λ (o : ℕ). o % 16) (alike 9 nine) ∙ sym (its xs octets 0 (omega arith))
+
+-- an IAM with three signals that is short: no message is read that begins with its first ten octets, which hold the first two
+pub shortForGood : (own far theirs : ℕ) (xs ys : List ℕ) → ((i : ℕ) → getD xs i 0 < 256) → ((i : ℕ) → getD ys i 0 < 256)
+    → getD xs 5 0 ≡ 0x11 → shortAnyway 10 xs ≡ true → take 10 ys ≡ take 10 xs → fieldsOf own far theirs ys .refusal ≡ 0 → ⊥
+shortForGood own far theirs xs ys octets octets′ iam e same ok =
+    let both = bothHold (eqb (fieldBy (formatOf 0x11) COUNT xs) 3) e in
+    notShort own far theirs xs ys octets octets′ 9 same ok (omega arith) (headingThere xs octets ∙ iam) (omega arith)
+    (sym (counted xs octets) ∙ eqb-true _ _ (both .0)) (ap (λ (w : ℕ). short w (address xs octets)) (sym (indicated xs octets)) ∙ both .1)
 
 module _ (own far records : ℕ) (xs : List ℕ) (octets : (i : ℕ) → getD xs i 0 < 256) where
   abbrev Unread : ℕ → Type 0
@@ -99,7 +123,7 @@ module _ (own far records : ℕ) (xs : List ℕ) (octets : (i : ℕ) → getD xs
                 (λ e. other),
                 (λ e. (
                   (λ e n theirs ys o same ok. notSpoilt own far theirs xs ys octets o (9 + firstBad (address xs octets) / 2) (subst (Begins ys) (itsOctet e) same) ok (omega arith) (iamIn xs (bothHold (hasSignals (headingIn xs)) e .0)) refl (bothHold (hasSignals 0x11) (subst (λ (h : ℕ). (hasSignals h && badCodes (signalsBy (formatOf h) xs)) ≡ true) (iamIn xs (bothHold (hasSignals (headingIn xs)) e .0)) e) .1)),
-                  (λ e. ((λ e. other), (λ e. other))),
+                  (λ e. ((λ e. other), (λ e. ((λ e. other), (λ e. other))))),
                 )),
               )),
             )),

@@ -2,7 +2,7 @@
 -- Assumes nothing.
 use mathlib.Core.List.{List}
 use Prim.Native.Nat.{ℕ}
-use Rattle.formats.specs.Format.{Name, DPC, OPC, CIC, HEADING, COUNT, get, Format, contentIn}
+use Rattle.formats.specs.Format.{Name, DPC, OPC, CIC, HEADING, INDICATORS, COUNT, get, Format, contentIn}
 use Rattle.formats.specs.Messages.{head, formatOf}
 use Rattle.words.specs.Octets.{numberOf}
 
@@ -27,6 +27,9 @@ abbrev pub signalsBy : Format → List ℕ → List ℕ
 signalsBy f xs = contentIn f xs .signals
 
 -- by the format of the message's own heading
+abbrev pub indicatorsIn : List ℕ → ℕ
+indicatorsIn xs = fieldBy (formatOf (headingIn xs)) INDICATORS xs
+
 abbrev pub countIn : List ℕ → ℕ
 countIn xs = fieldBy (formatOf (headingIn xs)) COUNT xs
 

@@ -11,7 +11,7 @@ use Rattle.reader.specs.declared.Fields.{Fields}
 use Rattle.reader.specs.declared.Message.{Message}
 use Rattle.reader.specs.declared.Reading.{Reading}
 use Rattle.circuit.specs.Refusals.{Rule}
-use Rattle.formats.specs.Octets.{badCodes, firstBad}
+use Rattle.formats.specs.Octets.{badCodes, firstBad, short}
 use Rattle.words.specs.Octets.{over}
 use Rattle.formats.specs.Format.{Format, Content, octetsFor, fieldOctet, signalOctet, contentIn, DPC, OPC, CIC, HEADING, ACM, CATEGORY, INDICATORS, COUNT}
 use Rattle.formats.specs.Messages.{head, formatOf, signalsBehind, listed}
@@ -41,6 +41,7 @@ formatFaults records f xs =
     ∷ fault 10 (signalsBehind (f .behind) && eqb (fieldBy f COUNT xs) 0) (fieldOctet (f .fields) COUNT)
     ∷ fault 7 (signalsBehind (f .behind) && not (eqb (length xs) (octetsFor f (fieldBy f COUNT xs)))) (length xs)
     ∷ fault 10 (signalsBehind (f .behind) && badCodes (signalsBy f xs)) (signalOctet f (firstBad (signalsBy f xs)))
+    ∷ fault 17 (signalsBehind (f .behind) && short (fieldBy f INDICATORS xs) (signalsBy f xs)) (fieldOctet (f .fields) COUNT)
     ∷ fault 2 (leb records (cicIn xs)) (fieldOctet head CIC)
     ∷ []
 

@@ -5,14 +5,14 @@ use codes::Named;
 ghost use mathlib.Core.Path.{_≡_};
 ghost use mathlib.Core.Bool.{cond, not, _||_};
 ghost use lib.Dec.{eqb};
-ghost use Prim.Native.Nat.{_+_, _/_, _%_, _≤_, _^_};
+ghost use Prim.Native.Nat.{_+_, _/_, _%_, _<_, _≤_, _^_};
 ghost use lib.ListN.{length, getD, drop, take};
 ghost use Rattle.words.specs.Octets.{over};
 ghost use Rattle.formats.specs.Messages.{half, iamHeading};
 ghost use Rattle.formats.specs.Way.{halves};
 ghost use Rattle.reader.specs.Places.{cicIn};
 ghost use Rattle.reader.specs.Reading.{noCodes, refused, fieldsOf, reading};
-ghost use Rattle.reader.specs.Way.{bodyOf, plainFields};
+ghost use Rattle.reader.specs.Way.{bodyOf, plainFields, iamFields};
 
 // The two octets of an IAM's indicators and count have a spare bit, and ACM's octet and IAM's category have two: what they say lies below.
 const SPARE_INDICATOR: u64 = 2048;
@@ -115,6 +115,24 @@ fn plain_fields(circuit: Cic, heading: u8, acm: u8) -> Fields
     }
 }
 
+// An IAM that is read; the number of its two octets has the count in its upper half octet.
+fn iam_fields(circuit: Cic, category: u8, word: u64, codes: [u8; 15]) -> Fields
+    requires { ⌜ word < 65536 ⌝ }
+    ensures { λ r. ⌜ r ≡ iamFields circuit category (word % 2048) (word / 4096) codes ⌝ }
+{
+    Fields {
+        refusal: names::ACCEPTED,
+        place: 0,
+        circuit: circuit,
+        heading: formats::IAM as u8,
+        acm: 0,
+        category: category,
+        indicators: (word % SPARE_INDICATOR) as u32,
+        count: (word / formats::COUNT_PLACE) as u8,
+        address: codes,
+    }
+}
+
 // An IAM whose label is in order.
 fn read_iam(records: usize, circuit: Cic, octets: &[u8]) -> Fields
     requires { ⌜ circuit .0 ≡ cicIn (now octets) ⌝ }
@@ -136,20 +154,13 @@ fn read_iam(records: usize, circuit: Cic, octets: &[u8]) -> Fields
     if bad < count {
         return refused(names::WRONG_ADDRESS, (formats::IAM_OCTETS + bad / 2) as u64);
     }
+    if formats::short((word % SPARE_INDICATOR) as u32, &codes[..count]) {
+        return refused(names::SHORT_NUMBER, formats::COUNT_OCTET);
+    }
     if records <= circuit.0 as usize {
         return refused(names::NO_SUCH_CIRCUIT, formats::CIC_OCTET);
     }
-    Fields {
-        refusal: names::ACCEPTED,
-        place: 0,
-        circuit: circuit,
-        heading: formats::IAM as u8,
-        acm: 0,
-        category: octets[6] % SPARE_BITS,
-        indicators: (word % SPARE_INDICATOR) as u32,
-        count: count as u8,
-        address: codes,
-    }
+    iam_fields(circuit, octets[6] % SPARE_BITS, word, codes)
 }
 
 // A message whose label is in order.

@@ -8,6 +8,7 @@ use lib.Dec.{ltb}
 use lib.ListN.{length}
 use Rattle.circuit.specs.Refusals.{refuse, firstOf}
 use Rattle.formats.specs.Messages.{iamHeading, acmHeading, isAcm}
+use Rattle.formats.specs.Octets.{short}
 use Rattle.formats.specs.Way.{pairs}
 use Rattle.words.specs.Octets.{lowFirst}
 use Rattle.writer.specs.Writing.{badAddress, Outcome, putting}
@@ -32,10 +33,12 @@ iamOctets label category indicators address = iamHead label category (indicators
 abbrev pub shortOctets : (label heading acm : ℕ) → List ℕ
 shortOctets label heading acm = cond (isAcm heading) (acmOctets label acm) (plainOctets label heading)
 
--- an IAM whose fields are in order: two tests are left
+-- an IAM whose fields are in order: three tests are left
 unfoldable pub iamWriting : (label category indicators : ℕ) → List ℕ → List ℕ → Outcome
 iamWriting label category indicators address buffer =
-    putting (firstOf (refuse 10 (badAddress address) ∷ refuse 11 (ltb (length buffer) (length (iamOctets label category indicators address))) ∷ []))
+    putting
+    (firstOf
+    (refuse 10 (badAddress address) ∷ refuse 17 (short indicators address) ∷ refuse 11 (ltb (length buffer) (length (iamOctets label category indicators address))) ∷ []))
     (iamOctets label category indicators address) buffer
 
 -- any other message whose fields are in order: one test is left

@@ -10,7 +10,7 @@ use Rattle.writer.specs.declared.Written.{Written}
 use Rattle.circuit.specs.Refusals.{refuse, Rule, firstOf}
 use Rattle.formats.specs.Format.{Name, DPC, OPC, CIC, HEADING, ACM, CATEGORY, INDICATORS, COUNT, Format, Content, octetsFrom, most}
 use Rattle.formats.specs.Messages.{formatOf, signalsBehind, hasSignals, listed}
-use Rattle.formats.specs.Octets.{badCodes, aboveFifteen}
+use Rattle.formats.specs.Octets.{badCodes, aboveFifteen, short}
 use Rattle.words.specs.Octets.{over}
 
 -- what the writer is told to say
@@ -66,6 +66,7 @@ writeRules own far records m room =
     ∷ refuse 9 (not (listed (m .heading)))
     ∷ refuse 3 (tooLarge m)
     ∷ refuse 10 (hasSignals (m .heading) && badAddress (m .address))
+    ∷ refuse 17 (hasSignals (m .heading) && short (m .indicators) (m .address))
     ∷ refuse 11 (ltb room (length (octetsOf own far m)))
     ∷ []
 

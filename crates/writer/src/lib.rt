@@ -168,6 +168,9 @@ fn write_iam(label: u64, category: u32, indicators: u32, address: &[u8], out: &m
     if bad_address(address) {
         return unwritten(names::WRONG_ADDRESS);
     }
+    if formats::short(indicators, address) {
+        return unwritten(names::SHORT_NUMBER);
+    }
     let count = address.len();
     let need = formats::IAM_OCTETS + (count + 1) / 2;
     if out.len() < need {

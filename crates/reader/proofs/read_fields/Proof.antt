@@ -1,7 +1,7 @@
 -- `reader::read_fields` meets its contract.
 -- Assumes nothing.
 use native.Mathlib.Omega.{arith}
-use Rattle.reader.proofs.Bodies.{bad-group, short, stray, ours-read, strays, stray-at, the-circuit}
+use Rattle.reader.proofs.Bodies.{bad-group, cut, stray, ours-read, strays, stray-at, the-circuit}
 use Rattle.reader.specs.Reading.{refused}
 use mathlib.Core.Path.{sym, ap, _∙_}
 use Prim.Native.Nat.{ℕ, _<_}
@@ -23,7 +23,7 @@ wrong-length-requires : tie.Need-wrong-length-requires
 wrong-length-requires c κs = search needs
 
 returns-2 : tie.Need-returns-2
-returns-2 c = c .wrong-length .ensures ∙ sym (short _ _ _ _ (sym (c .before .before .before .bad-group .ensures) ∙ c .before .before .if1 .left) (c .before .if2 .taken))
+returns-2 c = c .wrong-length .ensures ∙ sym (cut _ _ _ _ (sym (c .before .before .before .bad-group .ensures) ∙ c .before .before .if1 .left) (c .before .if2 .taken))
 
 shared-slice-read-number : tie.Need-shared-slice-read-number
 shared-slice-read-number c = search needs
