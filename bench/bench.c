@@ -49,7 +49,8 @@ static void draw_messages(void)
         if (m.heading == TUP_ACM)
             m.acm = draw(64);
         if (m.heading == TUP_IAM) {
-            m.category = draw(64), m.indicators = draw(2048), m.address_len = 4 + draw(12);
+            m.category = draw(64), m.indicators = draw(2048);
+            m.address_len = 4 + draw(12); /* enough for every nature of address */
             for (size_t k = 0; k < m.address_len; k++)
                 m.address[k] = (uint8_t)draw(10);
         }

@@ -20,9 +20,10 @@ int main(int argc, char **argv)
     for (unsigned i = 0; i < messages; i++) {
         uint32_t heading = sent[i % sizeof sent];
         int iam = heading == TUP_IAM;
+        uint32_t nature = 2 + i / (unsigned)sizeof sent % 2; /* national and international numbers in turn */
         uint8_t octets[32];
-        size_t length = ref_write(2, 1, CIRCUITS, draw(CIRCUITS), heading, heading == TUP_ACM ? 5 : 0, iam ? 10 : 0, iam ? 2 : 0, digits,
-                                  iam ? sizeof digits : 0, octets, sizeof octets) >> 8;
+        size_t length = ref_write(2, 1, CIRCUITS, draw(CIRCUITS), heading, heading == TUP_ACM ? 5 : 0, iam ? 10 : 0,
+                                  iam ? nature : 0, digits, iam ? sizeof digits : 0, octets, sizeof octets) >> 8;
         putchar((int)length);
         fwrite(octets, 1, length, stdout);
     }

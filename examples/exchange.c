@@ -6,10 +6,6 @@
 /* How long each timer runs, in seconds. */
 static const unsigned lengths[RESTART_WAIT] = {0, 25, 50, 30, 10, 60, 10};
 
-/* What an IAM says is the host's: here always the same call. */
-enum { CATEGORY = 10, INDICATORS = 2 };
-static const uint8_t called[] = {5, 5, 5, 0, 1, 2, 3, 15};
-
 /* The wheel. */
 
 static void stop_timer(struct exchange *x, uint32_t circuit, uint32_t timer)
@@ -73,17 +69,28 @@ static void signal_passed(struct exchange *x, uint32_t circuit)
 
 /* Events. */
 
-/* A step names the heading; the octet of an ACM and the contents of an IAM are put in here. */
+/* A message in TUP_MESSAGE_MAX octets; but for an IAM the call is one of zeros. Answers as tup_write does. */
+static uint32_t write_message(const struct exchange *x, uint32_t circuit, uint32_t heading, uint32_t acm, const struct call *call,
+                              uint8_t *octets)
+{
+    return tup_write(x->own, x->far, CIRCUITS, circuit, heading, acm, call->category, call->indicators, call->address,
+                     call->address_len, octets, TUP_MESSAGE_MAX);
+}
+
+/* A step names the heading. The octet of an ACM is put in here; an IAM is there already. */
 static void send_signal(struct exchange *x, uint32_t circuit, uint32_t heading, uint32_t detail)
 {
-    int iam = heading == TUP_IAM;
+    static const struct call none;
     uint8_t octets[TUP_MESSAGE_MAX];
     if (heading == TUP_NO_HEADING)
         return;
-    /* Not refused: the heading is a step's, and the detail that of an address complete which was taken. */
-    uint32_t written = tup_write(x->own, x->far, CIRCUITS, circuit, heading, heading == TUP_ACM ? detail : 0, iam ? CATEGORY : 0,
-                                 iam ? INDICATORS : 0, called, iam ? sizeof called : 0, octets, sizeof octets);
     signal_passed(x, circuit);
+    if (heading == TUP_IAM) {
+        x->send(x, circuit, x->iam[circuit], x->iam_len[circuit]);
+        return;
+    }
+    /* Not refused: the heading is a step's, and the detail that of an address complete which was taken. */
+    uint32_t written = write_message(x, circuit, heading, heading == TUP_ACM ? detail : 0, &none, octets);
     x->send(x, circuit, octets, tup_written_length(written));
 }
 
@@ -147,8 +154,21 @@ static void restart_now(struct exchange *x, uint32_t circuit)
     event(x, circuit, TUP_COMMAND, TUP_RESTART, 0);
 }
 
+/* What tup_write answers depends on what it is given alone, so that an IAM which was written here can be sent whenever the seizure
+   is taken. One of an earlier call on the circuit is overwritten: it was sent, and none is sent twice. */
+uint32_t exchange_seize(struct exchange *x, uint32_t circuit, const struct call *call)
+{
+    uint32_t written = write_message(x, circuit, TUP_IAM, 0, call, x->iam[circuit]);
+    if (tup_written_refusal(written) != TUP_ACCEPTED)
+        return tup_written_refusal(written);
+    x->iam_len[circuit] = tup_written_length(written);
+    return tup_answer_refusal(event(x, circuit, TUP_COMMAND, TUP_SEIZE, 0));
+}
+
 uint64_t exchange_command(struct exchange *x, uint32_t circuit, uint32_t command, uint32_t detail)
 {
+    if (command == TUP_SEIZE)
+        return TUP_NO_SUCH_EVENT;
     return event(x, circuit, TUP_COMMAND, command, detail);
 }
 

@@ -1,6 +1,7 @@
 /* One exchange of a small host: all that a host does around tup.h for its group of circuits. It lends the table, sends what a step
    names and takes what arrives, runs the timers on a wheel of seconds, and restarts circuits when that is safe. It keeps the rules
-   of docs/HOST.md, "Quiet circuits" and "Restarts"; what is on the link, and what is printed, is for its user to say. */
+   of docs/HOST.md, "Quiet circuits", "Restarts" and "Before a circuit is seized"; what is on the link, and what is printed, is for
+   its user to say. */
 #ifndef EXCHANGE_H
 #define EXCHANGE_H
 
@@ -11,6 +12,13 @@ enum {
     RESTART_WAIT = 7, /* on the wheel beside timers 1 to 6: a restart that waits until its circuit is quiet */
     TIMERS = 8,
     SLOTS = 64 /* no timer is longer than the wheel */
+};
+
+/* What an IAM says of its call, which is the host's to fill in. */
+struct call {
+    uint32_t category, indicators;
+    uint8_t address[TUP_ADDRESS_MAX];
+    size_t address_len;
 };
 
 struct exchange {
@@ -27,6 +35,8 @@ struct exchange {
     uint32_t (*may_run_out)(uint32_t due, int quiet);
 
     uint8_t table[TUP_TABLE_OCTETS(CIRCUITS)];
+    uint8_t iam[CIRCUITS][TUP_MESSAGE_MAX]; /* written before the circuit is seized, and sent when it is */
+    size_t iam_len[CIRCUITS];
     unsigned seconds;
     unsigned last_signal[CIRCUITS];  /* when one was last sent or received on the circuit */
     int shut[CIRCUITS];              /* since the host came up, or found its record bad, the circuit was not restarted yet */
@@ -38,7 +48,12 @@ struct exchange {
 /* The host comes up, for the first time or again: every circuit is restarted once it is quiet, and shut until then. */
 void exchange_start(struct exchange *x);
 
-/* A command of call control or of maintenance. Answers as tup_step does. */
+/* Seizes a circuit for a call of our own. Its IAM is written first, since no circuit may be seized for one that cannot be sent:
+   where tup_write refuses it, a short number with 17, nothing happens. Answers that refusal, or else the seizure's. */
+uint32_t exchange_seize(struct exchange *x, uint32_t circuit, const struct call *call);
+
+/* Any other command of call control or of maintenance. Answers as tup_step does; TUP_SEIZE, for which there is no IAM here, is
+   refused 3. */
 uint64_t exchange_command(struct exchange *x, uint32_t circuit, uint32_t command, uint32_t detail);
 
 /* Octets that came from the link. Answers whether they were a signal and its circuit took it: on one that is shut it is dropped. */

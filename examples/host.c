@@ -19,6 +19,9 @@ static int broken; /* the link loses what is sent */
 static struct exchange exchanges[2];
 static struct exchange *const a = &exchanges[0], *const b = &exchanges[1];
 
+/* What most of the calls here are for: category 10, a national number. */
+static const struct call usual = {10, 2, {5, 5, 5, 0, 1, 2, 3, 15}, 8};
+
 static void print_octets(const uint8_t *octets, size_t len)
 {
     for (size_t i = 0; i < len; i++)
@@ -100,9 +103,9 @@ static void wait_seconds(unsigned count)
     deliver_all();
 }
 
-/* A circuit for an outgoing call; CIRCUITS where there is none, and another route is to be tried. Nothing happens to the table
-   between the choice and the seizure. */
-static uint32_t take_circuit(struct exchange *x)
+/* A circuit for an outgoing call; CIRCUITS where there is none, and another route is to be tried, or where the call cannot be made
+   at all. Nothing happens to the table between the choice and the seizure. */
+static uint32_t take_circuit(struct exchange *x, const struct call *call)
 {
     uint64_t choice = tup_select(x->own, x->far, x->table, sizeof x->table);
     uint32_t circuit = tup_selected_circuit(choice);
@@ -112,8 +115,11 @@ static uint32_t take_circuit(struct exchange *x)
         return CIRCUITS;
     }
     printf("%5u s  %s wants a circuit: %u (%u looked at)\n", x->seconds, x->name, circuit, tup_selected_looked(choice));
-    exchange_command(x, circuit, TUP_SEIZE, 0);
-    return circuit;
+    uint32_t refusal = exchange_seize(x, circuit, call);
+    if (refusal == TUP_ACCEPTED)
+        return circuit;
+    printf("%5u s  %s does not seize it: refused %u, %s\n", x->seconds, x->name, refusal, tup_refusal_name(refusal));
+    return CIRCUITS;
 }
 
 static void scene_start(void)
@@ -121,14 +127,14 @@ static void scene_start(void)
     printf("Both exchanges come up\n");
     exchange_start(a);
     exchange_start(b);
-    take_circuit(a);
+    take_circuit(a, &usual);
     wait_seconds(ROUND_TRIP + 1);
 }
 
 static void scene_call(void)
 {
     printf("\nA call from A\n");
-    uint32_t circuit = take_circuit(a);
+    uint32_t circuit = take_circuit(a, &usual);
     wait_seconds(2);
     exchange_command(b, circuit, TUP_ADDRESS_COMPLETE, 5);
     wait_seconds(6);
@@ -143,8 +149,8 @@ static void scene_call(void)
 static void scene_dual_seizure(void)
 {
     printf("\nA dual seizure on circuit 1, which B controls\n");
-    exchange_command(a, 1, TUP_SEIZE, 0);
-    exchange_command(b, 1, TUP_SEIZE, 0);
+    exchange_seize(a, 1, &usual);
+    exchange_seize(b, 1, &usual);
     wait_seconds(1);
     exchange_command(a, 1, TUP_FAIL, TUP_SSB);
     wait_seconds(1);
@@ -157,13 +163,13 @@ static void scene_lost_block(void)
     exchange_block(a, 3, 1);
     broken = 0;
     wait_seconds(10);
-    exchange_command(b, 3, TUP_SEIZE, 0);
+    exchange_seize(b, 3, &usual);
 }
 
 static void scene_reset(void)
 {
     printf("\nMaintenance resets circuit 2 while a call is being set up there\n");
-    exchange_command(b, 2, TUP_SEIZE, 0);
+    exchange_seize(b, 2, &usual);
     wait_seconds(1);
     exchange_restart(a, 2);
     wait_seconds(ROUND_TRIP + 1);
@@ -173,19 +179,21 @@ static void scene_refused(void)
 {
     static const uint8_t clf_from_3[] = {0x02, 0xc0, 0x00, 0x00, 0x00, 0x46}, no_heading[] = {0x02, 0x40, 0x00, 0x00, 0x00, 0x21},
                          short_acm[] = {0x02, 0x40, 0x00, 0x00, 0x00, 0x14}, clf_on_5[] = {0x02, 0x40, 0x00, 0x50, 0x00, 0x46},
-                         spare_digit[] = {0x02, 0x40, 0x00, 0x00, 0x00, 0x11, 0x0a, 0x00, 0x30, 0x21, 0x0d};
+                         spare_digit[] = {0x02, 0x40, 0x00, 0x00, 0x00, 0x11, 0x0a, 0x00, 0x30, 0x21, 0x0d},
+                         short_number[] = {0x02, 0x40, 0x00, 0x00, 0x00, 0x11, 0x0a, 0x03, 0x30, 0x94, 0x08};
     printf("\nA writes messages that it cannot read into its log\n");
     exchange_receive(a, clf_from_3, sizeof clf_from_3);
     exchange_receive(a, no_heading, sizeof no_heading);
     exchange_receive(a, short_acm, sizeof short_acm);
     exchange_receive(a, clf_on_5, sizeof clf_on_5);
     exchange_receive(a, spare_digit, sizeof spare_digit);
+    exchange_receive(a, short_number, sizeof short_number);
 }
 
 static void scene_failure(void)
 {
     printf("\nThe link fails while A clears a call, and is back after the 60th second: A then restarts all circuits\n");
-    exchange_command(a, 0, TUP_SEIZE, 0);
+    exchange_seize(a, 0, &usual);
     wait_seconds(5);
     broken = 1;
     exchange_command(a, 0, TUP_RELEASE, 0);
@@ -198,14 +206,26 @@ static void scene_failure(void)
 static void scene_restart(void)
 {
     printf("\nA's host restarts in the middle of a call, which B then clears\n");
-    uint32_t circuit = take_circuit(b);
+    uint32_t circuit = take_circuit(b, &usual);
     wait_seconds(1);
     exchange_command(a, circuit, TUP_ADDRESS_COMPLETE, 0);
     wait_seconds(5);
     exchange_start(a);
-    take_circuit(a);
+    take_circuit(a, &usual);
     exchange_command(b, circuit, TUP_RELEASE, 0);
     wait_seconds(15);
+}
+
+static void scene_abroad(void)
+{
+    struct call abroad = {10, 3, {4, 9, 8}, 3};
+    printf("\nA caller at A dials abroad: after three digits no circuit may be seized yet, after the fourth one may\n");
+    take_circuit(a, &abroad);
+    abroad.address[abroad.address_len++] = 9;
+    uint32_t circuit = take_circuit(a, &abroad);
+    wait_seconds(1);
+    exchange_command(a, circuit, TUP_RELEASE, 0);
+    wait_seconds(1);
 }
 
 static void begin(struct exchange *x, const char *name, uint32_t own, uint32_t far)
@@ -228,6 +248,7 @@ int main(void)
     scene_refused();
     scene_failure();
     scene_restart();
+    scene_abroad();
     printf("\nAll circuits at the end\n");
     for (uint32_t circuit = 0; circuit < CIRCUITS; circuit++)
         printf("circuit %u: A %s, flags %u; B %s, flags %u\n", circuit, tup_state_name(tup_record_state(a->table, circuit)),

@@ -14,7 +14,8 @@
  * - A record that is refused 12 is not repaired by any event, restart included: the host writes state TUP_AWAITING_RESET and no
  *   flags there, so that the circuit cannot be seized, and restarts it as it does after a restart of its own (below).
  * - What is sent is named by its heading alone. The octet of an ACM is the detail of the command that sent it; category,
- *   indicators and address of an IAM are the host's.
+ *   indicators and address of an IAM are the host's. It sees to it before TUP_SEIZE that tup_write will take them: a refusal comes
+ *   too late when the circuit is seized, and the far end is never told.
  *
  * What it owes for the two ends to agree. On each circuit all signals arrive, each once, in the order in which they were sent.
  * The other rules speak of a quiet circuit. It is quiet at an end when that end has neither sent nor received a signal on it for
@@ -39,7 +40,7 @@
    reads or writes tables itself compares it with the one that it was written for. Format 1 had two octets a record and no
    counter; 2 has the counter and the release ranks. */
 #define TUP_VERSION_MAJOR 4
-#define TUP_VERSION_MINOR 3
+#define TUP_VERSION_MINOR 4
 #define TUP_VERSION_PATCH 0
 #define TUP_VERSION (TUP_VERSION_MAJOR * 10000 + TUP_VERSION_MINOR * 100 + TUP_VERSION_PATCH)
 #define TUP_TABLE_FORMAT 2
@@ -135,7 +136,8 @@ TUP_ENUM(tup_refusal) {
     TUP_OUTPUT_TOO_SHORT = 11,
     TUP_BAD_RECORD = 12,
     TUP_COUNTER_FULL = 13, /* the event would free the circuit, and the counter is at 2^64 - 1 */
-    TUP_NO_CIRCUIT = 14    /* of the choice: no circuit qualifies */
+    TUP_NO_CIRCUIT = 14,   /* of the choice: no circuit qualifies */
+    TUP_SHORT_NUMBER = 17  /* of an IAM: an international number with too few signals; 15 and 16 are not in use */
 };
 
 /* Heading octets, H0 + 16 * H1 of Q.723. From SEC on they are the failures. */
@@ -211,14 +213,15 @@ uint64_t tup_select(uint32_t own, uint32_t far, const uint8_t *table, size_t tab
 /* Reads the message of len octets, from its label on, in a group of count circuits. The answer is 0 where it was read, else the
    refusal and the place in the message that it is about, taken apart by the tup_read_ functions below. Read, the first
    TUP_MESSAGE_OCTETS octets of out are its fields and the rest of out keeps its contents; refused, all of out does.
-   Order of refusals: 1; 7 under six octets; 8; 9; 7 by the heading; 10 for no signals; 7 by the count; 10 by the codes; 2; 11.
-   Up to version 4.2 the answer was the refusal alone, in 32 bits. */
+   Order of refusals: 1; 7 under six octets; 8; 9; 7 by the heading; 10 for no signals; 7 by the count; 10 by the codes; 17; 2; 11.
+   17 is for an IAM whose nature of address, indicators % 4, is 3, and which has fewer than four address signals besides ST, unless
+   the first of them is 11 or 12. Up to version 4.3 such an IAM was read. Up to 4.2 the answer was the refusal alone, in 32 bits. */
 uint64_t tup_read(uint32_t own, uint32_t far, uint32_t count, const uint8_t *octets, size_t len, uint8_t *out, size_t out_len);
 
 /* Writes a message. Fields that the heading does not have are 0 and the address empty. address_len is the count of address
    signals, one octet each. The circuit need not be below count, only below 4096. Octets of out beyond the message, and all of
-   them on a refusal, keep their contents. Order of refusals: 1, 2, 9, 3, 10, 11. The answer is taken apart by the tup_written_
-   functions below. */
+   them on a refusal, keep their contents. Order of refusals: 1, 2, 9, 3, 10, 17, 11, where 17 is for the IAMs that tup_read refuses
+   so; up to version 4.3 they were written. The answer is taken apart by the tup_written_ functions below. */
 uint32_t tup_write(uint32_t own, uint32_t far, uint32_t count, uint32_t cic, uint32_t heading, uint32_t acm, uint32_t category,
                    uint32_t indicators, const uint8_t *address, size_t address_len, uint8_t *out, size_t out_len);
 
@@ -242,6 +245,7 @@ static inline uint32_t tup_selected_looked(uint64_t answer) { return TUP_CAST(ui
 /* The answer of tup_read; both are 0 where the message was read. The place is the octet that is wrong, counted from 0:
    - 8: 0 if DPC is wrong, else 1, where OPC begins; 9: 5, the heading; 2: 3, where the circuit begins;
    - 10: 8, the count, where it is 0; else the octet of the first address signal that is a spare code, or an ST before the last;
+   - 17: 8, the count;
    - 7: no octet but the length that arrived, len itself, or 2^56 - 1 where it is more than that;
    - 1 and 11: 0, since the message is not at fault. */
 static inline uint32_t tup_read_refusal(uint64_t answer) { return TUP_CAST(uint32_t, answer & 255u); }

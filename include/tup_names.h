@@ -77,6 +77,7 @@ static inline const char *tup_refusal_name(uint32_t refusal)
     case TUP_BAD_RECORD: return "bad record";
     case TUP_COUNTER_FULL: return "counter full";
     case TUP_NO_CIRCUIT: return "no circuit";
+    case TUP_SHORT_NUMBER: return "short number";
     default: return "?";
     }
 }

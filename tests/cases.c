@@ -1,7 +1,7 @@
 /* Cases written down by hand, each with the answer that the rules give: those of docs/RULES.md, "Cases" (P1 to P10 and the ones to
    be run by a program), and one for each place where the rules were open and docs/DECISIONS.md says how they were read; then those
-   of release ranks and refusal 13, and of the choice of a circuit and refusal 14. They hold the archive, and the reference as well,
-   to numbers that neither of them computed. */
+   of release ranks and refusal 13, of the choice of a circuit and refusal 14, and of short numbers and refusal 17. They hold the
+   archive, and the reference as well, to numbers that neither of them computed. */
 #include "harness.h"
 #include "reference.h"
 #include "tup.h"
@@ -416,15 +416,15 @@ static const struct read_case {
     {"IAM too long for its count", "0180003000110a03100102", 4, 23, 7, 11, {0}},
     {"a wrong length comes before a spare code", "0180003000110a0330aa", 4, 23, 7, 10, {0}},
     {"a spare code comes before 2", "0180003000110a03100a", 3, 23, 10, 9, {0}},
-    {"one signal, spare bits and filler set", "018000300011ca0318f1", 4, 23, 0, 0, {3, 0, 0x11, 0, 10, 3, 0, 1, 1}},
-    {"a spare code as filler", "0180003000110a0310a1", 4, 23, 0, 0, {3, 0, 0x11, 0, 10, 3, 0, 1, 1}},
-    {"ST alone", "0180003000110a03100f", 4, 23, 0, 0, {3, 0, 0x11, 0, 10, 3, 0, 1, 15}},
+    {"one signal, spare bits and filler set", "018000300011ca0218f1", 4, 23, 0, 0, {3, 0, 0x11, 0, 10, 2, 0, 1, 1}},
+    {"a spare code as filler", "0180003000110a0210a1", 4, 23, 0, 0, {3, 0, 0x11, 0, 10, 2, 0, 1, 1}},
+    {"ST alone", "0180003000110a02100f", 4, 23, 0, 0, {3, 0, 0x11, 0, 10, 2, 0, 1, 15}},
     {"ST before the end", "0180003000110a03201f", 4, 23, 10, 9, {0}},
     {"ST before the end, its follower in the next octet", "0180003000110a0330f102", 4, 23, 10, 9, {0}},
     {"ST before the end, in the second octet", "0180003000110a0340213f", 4, 23, 10, 10, {0}},
     {"ST before ST", "0180003000110a0320ff", 4, 23, 10, 9, {0}},
-    {"ST behind which filler alone stands", "0180003000110a0330213f", 4, 23, 0, 0, {3, 0, 0x11, 0, 10, 3, 0, 3, 1, 2, 15}},
-    {"ST at the end", "0180003000110a0320f1", 4, 23, 0, 0, {3, 0, 0x11, 0, 10, 3, 0, 2, 1, 15}},
+    {"ST behind which filler alone stands", "0180003000110a0230213f", 4, 23, 0, 0, {3, 0, 0x11, 0, 10, 2, 0, 3, 1, 2, 15}},
+    {"ST at the end", "0180003000110a0220f1", 4, 23, 0, 0, {3, 0, 0x11, 0, 10, 2, 0, 2, 1, 15}},
     {"two bad signals: the first one's octet", "0180003000110a0340a12d", 4, 23, 10, 9, {0}},
     {"two bad signals in one octet, behind a good one", "0180003000110a034021da", 4, 23, 10, 10, {0}},
     {"an early ST, then a spare code", "0180003000110a0340f1e2", 4, 23, 10, 9, {0}},
@@ -441,6 +441,18 @@ static const struct read_case {
     {"output too short", "018000300046", 4, 22, 11, 0, {0}},
     {"no output, and beyond the group", "018000300046", 3, 0, 2, 3, {0}},
     {"no output, and a spare code", "0180003000110a0340213e", 4, 0, 10, 10, {0}},
+    {"a short number comes before 2", "0180003000110a03302103", 3, 23, 17, 8, {0}},
+    {"a short number on CIC 4095", "018000f0ff110a03302103", 4, 23, 17, 8, {0}},
+    {"a short number comes before 11", "0180003000110a03302103", 4, 22, 17, 8, {0}},
+    {"a short number comes before 2 and 11", "0180003000110a03302103", 3, 0, 17, 8, {0}},
+    {"an operator beyond the group", "0180003000110a03100b", 3, 23, 2, 3, {0}},
+    {"an operator into no output", "0180003000110a03100b", 4, 0, 11, 0, {0}},
+    {"a short number with all spare bits and the filler set", "018000300011ca033821f3", 4, 23, 17, 8, {0}},
+    {"a fourth signal in the filler's place", "0180003000110a03302143", 4, 23, 17, 8, {0}},
+    {"a wrong length comes before a short number", "0180003000110a033021", 4, 23, 7, 10, {0}},
+    {"a wrong label comes before a short number", "0140003000110a03302103", 4, 23, 8, 1, {0}},
+    {"an early ST comes before a short number", "0180003000110a0320ff", 4, 23, 10, 9, {0}},
+    {"a spare third signal comes before a short number", "0180003000110a0330210e", 4, 23, 10, 10, {0}},
 };
 
 static void run_read_case(reader read, const struct read_case *c)
@@ -464,7 +476,7 @@ static void run_read_case(reader read, const struct read_case *c)
 static void run_read_groups(reader read)
 {
     static const uint32_t groups[][3] = {{1, 1, 4}, {16384, 2, 4}, {1, 16384, 4}, {65537, 2, 4}, {1, 2, 0}, {1, 2, 4097}};
-    static const char *const texts[] = {"", "018000300046", "018000300021", "0180003000110a03100a"};
+    static const char *const texts[] = {"", "018000300046", "018000300021", "0180003000110a03100a", "0180003000110a03302103"};
     uint8_t octets[TUP_MESSAGE_MAX + 1], out[TUP_MESSAGE_OCTETS];
     case_now = "a message read in no group";
     for (size_t i = 0; i < sizeof groups / sizeof *groups; i++)
@@ -503,10 +515,23 @@ static const struct write_case {
     {"16 signals", 4, 3, 0x11, 0, 10, 3, 16, {1, 1, 1, 1, 1, 1, 1, 1, 1, 1, 1, 1, 1, 1, 1, 1}, 17, 10, ""},
     {"16 signals, the last above 15", 4, 3, 0x11, 0, 10, 3, 16, {1, 1, 1, 1, 1, 1, 1, 1, 1, 1, 1, 1, 1, 1, 1, 16}, 17, 3, ""},
     {"ST before the end", 4, 3, 0x11, 0, 10, 3, 2, {15, 1}, 17, 10, ""},
-    {"ST alone", 4, 3, 0x11, 0, 10, 3, 1, {15}, 10, 0, "0180003000110a03100f"},
-    {"one signal into nine octets", 4, 3, 0x11, 0, 10, 3, 1, {1}, 9, 11, ""},
+    {"ST alone", 4, 3, 0x11, 0, 10, 2, 1, {15}, 10, 0, "0180003000110a02100f"},
+    {"one signal into nine octets", 4, 3, 0x11, 0, 10, 2, 1, {1}, 9, 11, ""},
     {"15 signals", 4, 3, 0x11, 0, 10, 3, 15, {1, 2, 3, 4, 5, 6, 7, 8, 9, 0, 1, 2, 3, 4, 15}, 17, 0,
      "0180003000110a03f0214365870921430f"},
+    {"a short number comes before 11", 4, 3, 0x11, 0, 10, 3, 3, {1, 2, 3}, 10, 17, ""},
+    {"a short number into no octets", 4, 3, 0x11, 0, 10, 3, 3, {1, 2, 3}, 0, 17, ""},
+    {"four signals into ten octets", 4, 3, 0x11, 0, 10, 3, 4, {1, 2, 3, 4}, 10, 11, ""},
+    {"an operator into nine octets", 4, 3, 0x11, 0, 10, 3, 1, {11}, 9, 11, ""},
+    {"a short number beyond the group", 1, 3, 0x11, 0, 10, 3, 3, {1, 2, 3}, 17, 17, ""},
+    {"3 comes before a short number: the spare indicator", 4, 3, 0x11, 0, 10, 2051, 3, {1, 2, 3}, 17, 3, ""},
+    {"3 comes before a short number: category 64", 4, 3, 0x11, 0, 64, 3, 3, {1, 2, 3}, 17, 3, ""},
+    {"3 comes before a short number: a code above 15", 4, 3, 0x11, 0, 10, 3, 3, {1, 2, 16}, 17, 3, ""},
+    {"9 comes before a short number", 4, 3, 0x21, 0, 10, 3, 3, {1, 2, 3}, 17, 9, ""},
+    {"2 comes before a short number", 4, 4096, 0x11, 0, 10, 3, 3, {1, 2, 3}, 17, 2, ""},
+    {"1 comes before a short number", 0, 3, 0x11, 0, 10, 3, 3, {1, 2, 3}, 17, 1, ""},
+    {"10 comes before a short number: an early ST", 4, 3, 0x11, 0, 10, 3, 2, {15, 1}, 17, 10, ""},
+    {"CLF with nature of address 3", 4, 3, 0x46, 0, 0, 3, 0, {0}, 17, 3, ""},
 };
 
 static void run_write_case(writer write, const struct write_case *c)
@@ -523,6 +548,66 @@ static void run_write_case(writer write, const struct write_case *c)
     expect("the rest of the answer", answer >> 16, 0);
     for (size_t i = 0; i < sizeof out; i++)
         expect("an octet of the output", out[i], kept[i]);
+}
+
+/* IAMs with few signals, by indicators and address, and the octets that they are on the link, or would be if they were not refused;
+   the refusal and its place. Each is read as above, and written. */
+static const struct number_case {
+    const char *name;
+    uint32_t indicators;
+    size_t address_len;
+    uint8_t address[TUP_ADDRESS_MAX];
+    const char *text;
+    uint32_t refusal, place;
+} number_cases[] = {
+    {"three digits", 3, 3, {1, 2, 3}, "0180003000110a03302103", 17, 8},
+    {"three digits and ST, which does not count", 3, 4, {1, 2, 3, 15}, "0180003000110a034021f3", 17, 8},
+    {"four digits", 3, 4, {1, 2, 3, 4}, "0180003000110a03402143", 0, 0},
+    {"four digits and ST", 3, 5, {1, 2, 3, 4, 15}, "0180003000110a035021430f", 0, 0},
+    {"four digits 0", 3, 4, {0, 0, 0, 0}, "0180003000110a03400000", 0, 0},
+    {"one digit", 3, 1, {1}, "0180003000110a031001", 17, 8},
+    {"two digits", 3, 2, {1, 2}, "0180003000110a032021", 17, 8},
+    {"ST alone", 3, 1, {15}, "0180003000110a03100f", 17, 8},
+    {"operator code 11 alone", 3, 1, {11}, "0180003000110a03100b", 0, 0},
+    {"operator code 11 and ST", 3, 2, {11, 15}, "0180003000110a0320fb", 0, 0},
+    {"operator code 12 alone", 3, 1, {12}, "0180003000110a03100c", 0, 0},
+    {"operator code 12 and ST", 3, 2, {12, 15}, "0180003000110a0320fc", 0, 0},
+    {"operator code 12 and a digit", 3, 2, {12, 1}, "0180003000110a03201c", 0, 0},
+    {"operator code 11 second of three", 3, 3, {1, 11, 2}, "0180003000110a0330b102", 17, 8},
+    {"operator code 11 second of two", 3, 2, {1, 11}, "0180003000110a0320b1", 17, 8},
+    {"operator code 12 last of three, before ST", 3, 4, {1, 2, 12, 15}, "0180003000110a034021fc", 17, 8},
+    {"operator code 11 counts as one of four", 3, 4, {1, 11, 2, 3}, "0180003000110a0340b132", 0, 0},
+    {"a spare code comes before a short number", 3, 2, {1, 10}, "0180003000110a0320a1", 10, 9},
+    {"a spare code behind operator code 11", 3, 2, {11, 13}, "0180003000110a0320db", 10, 9},
+    {"nature 2, one digit", 2, 1, {1}, "0180003000110a021001", 0, 0},
+    {"nature 2, ST alone", 2, 1, {15}, "0180003000110a02100f", 0, 0},
+    {"nature 1, one digit", 1, 1, {1}, "0180003000110a011001", 0, 0},
+    {"nature 0, one digit", 0, 1, {1}, "0180003000110a001001", 0, 0},
+    {"indicators 4 are nature 0", 4, 3, {1, 2, 3}, "0180003000110a04302103", 0, 0},
+    {"indicators 6 are nature 2", 6, 3, {1, 2, 3}, "0180003000110a06302103", 0, 0},
+    {"indicators 7 are nature 3", 7, 3, {1, 2, 3}, "0180003000110a07302103", 17, 8},
+    {"indicators 11 are nature 3", 11, 3, {1, 2, 3}, "0180003000110a0b302103", 17, 8},
+    {"indicators 12 are nature 0", 12, 3, {1, 2, 3}, "0180003000110a0c302103", 0, 0},
+    {"indicators 259 are nature 3", 259, 3, {1, 2, 3}, "0180003000110a03312103", 17, 8},
+    {"indicators 768 are nature 0", 768, 3, {1, 2, 3}, "0180003000110a00332103", 0, 0},
+    {"indicators 2046 are nature 2", 2046, 3, {1, 2, 3}, "0180003000110afe372103", 0, 0},
+    {"indicators 2047 are nature 3", 2047, 3, {1, 2, 3}, "0180003000110aff372103", 17, 8},
+    {"indicators 2047, four digits", 2047, 4, {1, 2, 3, 4}, "0180003000110aff472143", 0, 0},
+    {"indicators 2047, operator code 12", 2047, 1, {12}, "0180003000110aff170c", 0, 0},
+};
+
+static void run_number_case(reader read, writer write, const struct number_case *c)
+{
+    struct read_case arrived = {c->name, c->text, 4, TUP_MESSAGE_OCTETS, c->refusal, c->place, {3, 0, 0x11, 0, 10}};
+    struct write_case sent = {c->name, 4, 3, 0x11, 0, 10, c->indicators, c->address_len, {0}, TUP_MESSAGE_MAX, c->refusal, ""};
+    arrived.fields[5] = (uint8_t)c->indicators, arrived.fields[6] = (uint8_t)(c->indicators >> 8);
+    arrived.fields[7] = (uint8_t)c->address_len;
+    memcpy(arrived.fields + 8, c->address, c->address_len);
+    memcpy(sent.address, c->address, c->address_len);
+    if (c->refusal == 0)
+        sent.text = c->text;
+    run_read_case(read, &arrived);
+    run_write_case(write, &sent);
 }
 
 static void run_all(stepper step, selector select, reader read, writer write)
@@ -545,6 +630,8 @@ static void run_all(stepper step, selector select, reader read, writer write)
     run_read_groups(read);
     for (size_t i = 0; i < sizeof write_cases / sizeof *write_cases; i++)
         run_write_case(write, write_cases + i);
+    for (size_t i = 0; i < sizeof number_cases / sizeof *number_cases; i++)
+        run_number_case(read, write, number_cases + i);
 }
 
 int main(void)
@@ -553,9 +640,10 @@ int main(void)
     run_all(ref_step, ref_select, ref_read, ref_write);
     harness_begin("cases", describe);
     run_all(tup_step, tup_select, tup_read, tup_write);
-    covered("%zu events, %zu with ranks, %zu groups, %zu choices, %zu messages read and %zu written",
+    covered("%zu events, %zu with ranks, %zu groups, %zu choices, %zu messages read, %zu written and %zu both",
             sizeof step_cases / sizeof *step_cases, sizeof rank_cases / sizeof *rank_cases,
             sizeof group_cases / sizeof *group_cases, sizeof select_cases / sizeof *select_cases,
-            sizeof read_cases / sizeof *read_cases, sizeof write_cases / sizeof *write_cases);
+            sizeof read_cases / sizeof *read_cases, sizeof write_cases / sizeof *write_cases,
+            sizeof number_cases / sizeof *number_cases);
     return 0;
 }

@@ -28,10 +28,10 @@ enum { WAY = 128, MANY = 32 };
 enum { EPISODE = 5000, ORDERS = 3 };
 
 /* How many there are of each, counted from 0; legal records; octets of a label, behind which the heading stands. */
-enum { CODES = 16384, STATES = 13, REFUSALS = 15, INDICATIONS = 11, TIMERS = 7, LEGAL = 98, LABEL = 5 };
+enum { CODES = 16384, STATES = 13, REFUSALS = TUP_SHORT_NUMBER + 1, INDICATIONS = 11, TIMERS = 7, LEGAL = 98, LABEL = 5 };
 
 /* Octets that neither end wrote. The reader refuses them all but those of the last kind. */
-enum foreign { JUNK, WRONG_CODES, TRUNCATED, UNKNOWN_HEADING, SPARE_DIGIT, ON_CIRCUIT_ASIDE, FOREIGN };
+enum foreign { JUNK, WRONG_CODES, TRUNCATED, UNKNOWN_HEADING, SPARE_DIGIT, SHORT_NUMBER, ON_CIRCUIT_ASIDE, FOREIGN };
 
 struct message {
     uint8_t octets[TUP_MESSAGE_MAX];
@@ -172,17 +172,6 @@ static void lose(uint32_t circuit)
 
 /* Messages. */
 
-static size_t draw_address(uint8_t *address)
-{
-    static const uint8_t digits[] = {0, 1, 2, 3, 4, 5, 6, 7, 8, 9, 11, 12};
-    size_t len = 1 + draw(TUP_ADDRESS_MAX);
-    for (size_t i = 0; i < len; i++)
-        address[i] = digits[draw(sizeof digits)];
-    if (chance(2))
-        address[len - 1] = 15;
-    return len;
-}
-
 /* What the writer of this group puts on the link; an IAM's particulars are drawn. */
 static struct message write_message(const struct group *writer, uint32_t circuit, uint32_t heading, uint32_t acm)
 {
@@ -190,8 +179,11 @@ static struct message write_message(const struct group *writer, uint32_t circuit
     uint8_t address[TUP_ADDRESS_MAX];
     uint32_t category = 0, indicators = 0;
     size_t address_len = 0;
-    if (heading == TUP_IAM)
-        category = draw(64), indicators = draw(2048), address_len = draw_address(address);
+    if (heading == TUP_IAM) {
+        category = draw(64), address_len = 1 + draw(TUP_ADDRESS_MAX);
+        draw_address(address, address_len);
+        indicators = draw_indicators(address, address_len);
+    }
     uint32_t written = tup_write(writer->own, writer->far, writer->circuits, circuit, heading, heading == TUP_ACM ? acm : 0,
                                  category, indicators, address, address_len, message.octets, sizeof message.octets);
     if (tup_written_refusal(written) != 0)
@@ -243,12 +235,25 @@ static void fill_with_junk(struct message *message, uint32_t code)
     message->answer = message->len <= LABEL ? refused_at(TUP_WRONG_LENGTH, message->len) : refused_at(TUP_WRONG_LABEL, 0);
 }
 
+/* Makes an IAM one of nature 3 with one to three digits and nothing else wrong. */
+static void shorten(struct message *message)
+{
+    static const uint8_t digits[] = {0x21, 0x03};
+    uint32_t count = 1 + draw(3);
+    message->octets[7] |= 3;
+    message->octets[8] = (uint8_t)((message->octets[8] & 15) | count << 4);
+    memcpy(message->octets + 9, digits, sizeof digits);
+    message->len = 9 + (count + 1) / 2;
+    message->answer = refused_at(TUP_SHORT_NUMBER, 8);
+}
+
 /* Octets that neither end wrote, coming from this end's side. They may name any circuit; but where they can be read, they are about
    the one set aside, since nobody could tell them from an end's own. */
 static struct message foreign_message(unsigned from, enum foreign kind)
 {
     struct group writer = kind == WRONG_CODES ? with_wrong_codes(group[from]) : group[from];
-    uint32_t heading = kind == SPARE_DIGIT ? TUP_IAM : headings[draw(HEADINGS)], circuit = draw(MOST);
+    int number = kind == SPARE_DIGIT || kind == SHORT_NUMBER;
+    uint32_t heading = number ? TUP_IAM : headings[draw(HEADINGS)], circuit = draw(MOST);
     struct message message = write_message(&writer, kind == ON_CIRCUIT_ASIDE ? aside : circuit, heading, draw(64));
     if (kind != ON_CIRCUIT_ASIDE)
         message.about = NONE;
@@ -270,6 +275,9 @@ static struct message foreign_message(unsigned from, enum foreign kind)
     case SPARE_DIGIT:
         message.octets[LABEL + 4] = 0xAA;
         message.answer = refused_at(TUP_WRONG_ADDRESS, LABEL + 4);
+        break;
+    case SHORT_NUMBER:
+        shorten(&message);
         break;
     default:
         break;
@@ -663,7 +671,7 @@ static void signals_seen(void)
 static void foreign_seen(void)
 {
     static const uint8_t refusals[] = {TUP_NO_SUCH_CIRCUIT, TUP_WRONG_LENGTH, TUP_WRONG_LABEL, TUP_NO_SUCH_HEADING,
-                                       TUP_WRONG_ADDRESS};
+                                       TUP_WRONG_ADDRESS, TUP_SHORT_NUMBER};
     unsigned long dropped = 0;
     for (unsigned i = 0; i < FOREIGN; i++)
         expect_seen(seen.foreign[i], "foreign octets, kind", i);

@@ -144,6 +144,34 @@ uint32_t draw_detail(uint32_t command)
     }
 }
 
+uint8_t draw_signal(void)
+{
+    static const uint8_t signals[] = {0, 1, 2, 3, 4, 5, 6, 7, 8, 9, 11, 12};
+    return signals[draw(sizeof signals)];
+}
+
+void draw_address(uint8_t *address, size_t len)
+{
+    for (size_t i = 0; i < len; i++)
+        address[i] = draw_signal();
+    if (len > 0 && chance(3))
+        address[len - 1] = 15;
+}
+
+int address_short(const uint8_t *address, size_t len)
+{
+    size_t besides_st = 0;
+    for (size_t i = 0; i < len; i++)
+        besides_st += address[i] != 15;
+    return besides_st < 4 && (len == 0 || (address[0] != 11 && address[0] != 12));
+}
+
+uint32_t draw_indicators(const uint8_t *address, size_t len)
+{
+    uint32_t nature = draw(address_short(address, len) ? 3 : 4);
+    return nature + 4 * draw(512);
+}
+
 const uint8_t stages[STAGES][2] = {{0, 0}, {1, 6}, {2, 7}, {2, 8}, {3, 9}, {4, 10}};
 
 int stages_agree(uint32_t state, uint32_t other)

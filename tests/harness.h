@@ -40,6 +40,15 @@ size_t octets_in(const char *text, uint8_t *octets);
 /* A detail that the command may have. */
 uint32_t draw_detail(uint32_t command);
 
+/* An address signal that is neither spare nor ST; so many of them, with ST as the last now and then; and indicators with which an
+   IAM to such an address can be sent: of every nature of address, but of nature 3 only where the number is not short. */
+uint8_t draw_signal(void);
+void draw_address(uint8_t *address, size_t len);
+uint32_t draw_indicators(const uint8_t *address, size_t len);
+
+/* Whether an address is short where its nature is 3: counted out here, so that the tests need not ask the reference. */
+int address_short(const uint8_t *address, size_t len);
+
 /* Demand 3's pairs of states, the outgoing end's first; and whether the states of two ends are one of them, either way round. */
 enum { STAGES = 6 };
 extern const uint8_t stages[STAGES][2];

@@ -7,7 +7,7 @@
 #include <stdio.h>
 #include <string.h>
 
-#if TUP_VERSION < 40300 || TUP_VERSION_MAJOR != 4
+#if TUP_VERSION < 40400 || TUP_VERSION_MAJOR != 4
 #error "the version is compared at compile time"
 #endif
 #if TUP_TABLE_FORMAT != 2
@@ -219,6 +219,8 @@ static void enums_of_messages(void)
     uint32_t unwritten = tup_write(2, 1, GROUP, 4, 0, 0, 0, 0, address, 0, octets, sizeof octets);
     expect("a bad heading", tup_refusal_of_written(unwritten), TUP_NO_SUCH_HEADING);
     expect("no octets", tup_refusal_of_read(tup_read(2, 1, GROUP, octets, 0, fields, sizeof fields)), TUP_WRONG_LENGTH);
+    unwritten = tup_write(2, 1, GROUP, 4, TUP_IAM, 0, 0, 3, address, sizeof address, octets, sizeof octets);
+    expect("a short number", tup_refusal_of_written(unwritten), TUP_SHORT_NUMBER);
     memset(table, 0, sizeof table);
     expect("a choice", tup_refusal_of_selected(tup_select(2, 1, table, TUP_TABLE_OCTETS(GROUP))), TUP_ACCEPTED);
     expect("no choice", tup_refusal_of_selected(tup_select(2, 1, table, 0)), TUP_NO_SUCH_GROUP);
@@ -263,7 +265,7 @@ static void names(void)
     names_of("states with a name", tup_state_name, 13);
     names_of("flags", tup_flag_name, 4);
     names_of("indications", tup_indication_name, 11);
-    names_of("refusals", tup_refusal_name, 15);
+    names_of("refusals", tup_refusal_name, 16);
     names_of("headings", tup_heading_name, HEADINGS);
     names_of("kinds", tup_kind_name, 3);
     names_of("commands", tup_command_name, 10);

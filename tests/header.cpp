@@ -22,7 +22,7 @@ int main()
     case TUP_ACCEPTED: break;
     case TUP_NO_SUCH_GROUP: case TUP_NO_SUCH_CIRCUIT: case TUP_NO_SUCH_EVENT: case TUP_FAR_BLOCKED: case TUP_COMMAND_NOT_ALLOWED:
     case TUP_TIMER_NOT_RUNNING: case TUP_WRONG_LENGTH: case TUP_WRONG_LABEL: case TUP_NO_SUCH_HEADING: case TUP_WRONG_ADDRESS:
-    case TUP_OUTPUT_TOO_SHORT: case TUP_BAD_RECORD: case TUP_COUNTER_FULL: case TUP_NO_CIRCUIT: return 1;
+    case TUP_OUTPUT_TOO_SHORT: case TUP_BAD_RECORD: case TUP_COUNTER_FULL: case TUP_NO_CIRCUIT: case TUP_SHORT_NUMBER: return 1;
     }
     if (tup_refusal_of_read(read) != TUP_ACCEPTED || tup_refusal_of_read(unread) != TUP_NO_SUCH_CIRCUIT ||
         tup_read_refusal(unread) != TUP_NO_SUCH_CIRCUIT || tup_read_place(unread) != 3)

@@ -1,8 +1,8 @@
-/* Two hosts made of examples/exchange.c over a link on which a signal takes its time, driven at random: calls, blocks, resets by
-   maintenance, hosts that go down at any moment and come up again, a link that fails and loses what is on it, memory that is
-   overwritten, and waits through the 60th second. By the rules of docs/HOST.md the ends agree at every quiet moment, and where no
-   signal was lost no nonsense arrives before address complete. Then each rule is broken in turn, and a fixed seed shows that the
-   ends come to disagree without it. `hosts search` looks for such seeds, where a change has made others of them. */
+/* Two hosts made of examples/exchange.c over a link on which a signal takes its time, driven at random: calls to any number,
+   blocks, resets by maintenance, hosts that go down at any moment and come up again, a link that fails and loses what is on it,
+   memory that is overwritten, and waits through the 60th second. By the rules of docs/HOST.md the ends agree at every quiet moment,
+   and where no signal was lost no nonsense arrives before address complete. Then each rule is broken in turn, and a fixed seed
+   shows that the ends come to disagree without it. `hosts search` looks for such seeds, where a change has made others of them. */
 #include "../examples/exchange.h"
 #include "harness.h"
 
@@ -25,7 +25,8 @@ enum broken {
     START_RESTARTS_NOT,   /* a host that comes up with zeros, and gives no command 10 */
     START_WITH_STORED,    /* .. with the table that it had */
     LOSS_RESTARTS_NOT,    /* the link is back, and nobody restarts anything */
-    LOSS_RESTARTS_SOME    /* one end restarts what is not idle with no flags there */
+    LOSS_RESTARTS_SOME,   /* one end restarts what is not idle with no flags there */
+    SEIZED_UNWRITTEN      /* a circuit is seized for an IAM that is then found to be refused */
 };
 static const struct run {
     enum broken broken;
@@ -35,14 +36,15 @@ static const struct run {
 } runs[] = {
     {NOTHING_BROKEN, "all rules kept, a quick link", 3, 0},
     {NOTHING_BROKEN, "all rules kept, a slow link", 9, 0},
-    {TIMERS_WAIT_NOT, "timers that do not wait for a quiet circuit", 9, 204},
-    {MINUTE_BESIDE_REPEAT, "timer 5 beside timer 4", 9, 208},
-    {RESET_WAITS_NOT, "a reset that does not wait for a quiet circuit", 9, 11},
-    {START_WAITS_NOT, "a host that comes up and does not wait", 9, 88},
-    {START_RESTARTS_NOT, "a host that comes up and does not restart its circuits", 9, 179},
-    {START_WITH_STORED, "a host that comes up with a stored table", 9, 254},
-    {LOSS_RESTARTS_NOT, "a link that failed, and no restart", 9, 43},
-    {LOSS_RESTARTS_SOME, "a link that failed, and a restart of what is not idle", 9, 226},
+    {TIMERS_WAIT_NOT, "timers that do not wait for a quiet circuit", 9, 2537},
+    {MINUTE_BESIDE_REPEAT, "timer 5 beside timer 4", 9, 2067},
+    {RESET_WAITS_NOT, "a reset that does not wait for a quiet circuit", 9, 2922},
+    {START_WAITS_NOT, "a host that comes up and does not wait", 9, 604},
+    {START_RESTARTS_NOT, "a host that comes up and does not restart its circuits", 9, 617},
+    {START_WITH_STORED, "a host that comes up with a stored table", 9, 2851},
+    {LOSS_RESTARTS_NOT, "a link that failed, and no restart", 9, 2762},
+    {LOSS_RESTARTS_SOME, "a link that failed, and a restart of what is not idle", 9, 96},
+    {SEIZED_UNWRITTEN, "a circuit seized for a short number", 9, 776},
 };
 static const struct run *run;
 
@@ -70,7 +72,7 @@ static unsigned load; /* how much the hosts want, busy at one time and calm at a
 
 static struct {
     unsigned long seconds, events, quiet, apart[STATES][STATES], marks[2][2], lost, starts, failures, resets, waited, minutes, both,
-        overwritten, in_seized;
+        overwritten, in_seized, short_numbers;
 } seen;
 
 static void describe(void)
@@ -98,6 +100,8 @@ static void lose(uint32_t circuit)
 static void send(struct exchange *x, uint32_t circuit, const uint8_t *octets, size_t len)
 {
     struct way *to = &way[end_of(x)];
+    if (len == 0)
+        differ("end %u sends a message of no octets", end_of(x));
     if (failed > 0) {
         lose(circuit);
         return;
@@ -296,6 +300,40 @@ static void reset(struct exchange *x, uint32_t circuit)
         exchange_restart(x, circuit);
 }
 
+/* Drawn one after the other, so that a seed gives the same calls with every compiler. */
+static struct call draw_call(void)
+{
+    struct call call;
+    call.category = draw(64);
+    call.indicators = draw(2048);
+    call.address_len = 1 + draw(TUP_ADDRESS_MAX);
+    draw_address(call.address, call.address_len);
+    return call;
+}
+
+/* A call to any number, a short one too. That is refused before anything happens to the circuit, and no other number is. Without a
+   number there is no seizure at all. */
+static void seize(struct exchange *x, uint32_t circuit)
+{
+    struct call call = draw_call();
+    uint8_t before[sizeof x->table];
+    unsigned waiting = on_way[circuit];
+    memcpy(before, x->table, sizeof before);
+    int is_short = call.indicators % 4 == 3 && address_short(call.address, call.address_len);
+    uint32_t refusal = exchange_seize(x, circuit, &call);
+    if ((refusal == TUP_SHORT_NUMBER) != is_short)
+        differ("end %u seizes circuit %u for a number that is %sshort: %u", end_of(x), circuit, is_short ? "" : "not ", refusal);
+    if (!is_short)
+        return;
+    seen.short_numbers++;
+    if (memcmp(x->table, before, sizeof before) != 0 || on_way[circuit] != waiting)
+        differ("a short number has changed something on circuit %u", circuit);
+    if (exchange_command(x, circuit, TUP_SEIZE, 0) != TUP_NO_SUCH_EVENT)
+        differ("circuit %u can be seized with no IAM for it", circuit);
+    if (run->broken == SEIZED_UNWRITTEN)
+        tup_step(x->own, x->far, x->table, sizeof x->table, circuit, TUP_COMMAND, TUP_SEIZE, 0);
+}
+
 static void command(struct exchange *x, uint32_t circuit)
 {
     static const uint8_t often[] = {TUP_SEIZE, TUP_SEIZE, TUP_RELEASE, TUP_ADDRESS_COMPLETE, TUP_ADDRESS_COMPLETE, TUP_ANSWER,
@@ -303,6 +341,8 @@ static void command(struct exchange *x, uint32_t circuit)
     uint32_t command = often[draw(sizeof often)], detail = draw_detail(command);
     if (chance(12))
         exchange_block(x, circuit, (int)draw(2));
+    else if (command == TUP_SEIZE)
+        seize(x, circuit);
     else
         exchange_command(x, circuit, command, detail);
 }
@@ -399,6 +439,7 @@ static void expect_all_seen(void)
     expect_seen(seen.in_seized, "a signal before address complete");
     expect_seen(seen.waited, "a reset that waits");
     expect_seen(seen.both, "timers 4 and 5 due in one second");
+    expect_seen(seen.short_numbers, "a short number");
 }
 
 static void kept(const struct run *of, unsigned long seconds)
@@ -413,7 +454,8 @@ static void kept(const struct run *of, unsigned long seconds)
     covered("%s: %lu seconds, %lu events, agreed at %lu quiet moments; %lu signals lost, the link failed %lu times, a host came up "
             "%lu times", run->what, seen.seconds, seen.events, seen.quiet, seen.lost, seen.failures, seen.starts);
     covered("  %lu resets, of which %lu waited; timer 5 ran out %lu times, with timer 4 due beside it %lu times; memory "
-            "was overwritten %lu times", seen.resets, seen.waited, seen.minutes, seen.both, seen.overwritten);
+            "was overwritten %lu times; %lu calls were to a short number", seen.resets, seen.waited, seen.minutes, seen.both,
+            seen.overwritten, seen.short_numbers);
 }
 
 static int shown(const struct run *of, uint64_t seed, unsigned long seconds)
@@ -424,7 +466,7 @@ static int shown(const struct run *of, uint64_t seed, unsigned long seconds)
     return disagreed;
 }
 
-enum { SHOWN_WITHIN = 20000, SEEDS = 300 };
+enum { SHOWN_WITHIN = 20000, SEEDS = 3000 };
 
 static void broken(const struct run *of)
 {

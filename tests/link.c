@@ -1,7 +1,8 @@
-/* tup_read and tup_write against the reference: every heading, length and count; every code in every place; every field beyond
-   its width; every octet of every format with every other value; random and damaged messages; and both round trips. The answer is
-   compared whole, of a refused message its place too. Messages and addresses are lent read-only, every slice lies at the edge of
-   an unreadable stretch, and every octet of an output and of what lies beside it is compared. */
+/* tup_read and tup_write against the reference: every heading, length and count; every code in every place; every small address
+   with every nature; every field beyond its width; every octet of every format with every other value; random and damaged
+   messages; and both round trips. The answer is compared whole, of a refused message its place too. Messages and addresses are lent
+   read-only, every slice lies at the edge of an unreadable stretch, and every octet of an output and of what lies beside it is
+   compared. */
 #include "harness.h"
 #include "reference.h"
 #include "tup.h"
@@ -24,6 +25,7 @@ static int reading;
 static struct room input, output;
 static unsigned long long reads, writes, read_well, written_well;
 static unsigned long long seen[256][LENGTHS]; /* how often a refusal was given with a place */
+static unsigned long long unwritten[256];     /* how often the writer gave a refusal, 0 included */
 
 static void print_octets(const char *name, const uint8_t *octets, size_t len)
 {
@@ -123,6 +125,7 @@ static uint32_t compare_write(const struct message *m, size_t out_len, uint8_t *
         writes++;
         written_well += tup_written_refusal(got) == 0;
     }
+    unwritten[tup_written_refusal(want)]++;
     return want;
 }
 
@@ -138,19 +141,12 @@ static void put_label(uint8_t *octets, uint32_t dpc, uint32_t opc, uint32_t cic)
         octets[i] = (uint8_t)(label >> 8 * i);
 }
 
-static uint8_t draw_digit(void)
-{
-    static const uint8_t good[] = {0, 1, 2, 3, 4, 5, 6, 7, 8, 9, 11, 12};
-    return good[draw(sizeof good)];
-}
-
-static void draw_address(struct message *m, size_t len)
+/* An address of this length, and indicators that go with it. */
+static void draw_number(struct message *m, size_t len)
 {
     m->address_len = len;
-    for (size_t i = 0; i < len; i++)
-        m->address[i] = draw_digit();
-    if (len > 0 && chance(3))
-        m->address[len - 1] = 15;
+    draw_address(m->address, len);
+    m->indicators = draw_indicators(m->address, len);
 }
 
 /* A message that can be written, in a group that has the circuit. */
@@ -164,8 +160,7 @@ static struct message draw_message(uint32_t heading)
         m.acm = draw(64);
     if (heading == TUP_IAM) {
         m.category = draw(64);
-        m.indicators = draw(2048);
-        draw_address(&m, 1 + draw(15));
+        draw_number(&m, 1 + draw(15));
     }
     return m;
 }
@@ -177,7 +172,7 @@ static void read_every_shape(void)
     for (uint32_t shape = 0; shape < 256 * LENGTHS * 16 * 8; shape++) {
         uint8_t octets[LENGTHS];
         for (int i = 0; i < LENGTHS; i++)
-            octets[i] = chance(4) ? (uint8_t)draw(256) : (uint8_t)(draw_digit() | draw_digit() << 4);
+            octets[i] = chance(4) ? (uint8_t)draw(256) : (uint8_t)(draw_signal() | draw_signal() << 4);
         uint32_t cic = draw(8);
         group(1 + draw(2), 3 + draw(2), 1 + draw(8));
         put_label(octets, chance(6) ? draw(16384) : now.own, chance(6) ? draw(16384) : now.far, cic);
@@ -187,20 +182,20 @@ static void read_every_shape(void)
     }
 }
 
-/* Every code in every place of every count of address signals, the filler of an odd count included. */
+/* Every code in every place of every count of address signals, the filler of an odd count included, with every nature. */
 static void read_every_code(void)
 {
     group(1, 2, 4);
     for (unsigned count = 1; count <= 15; count++)
         for (unsigned place = 0; place < count + count % 2; place++)
-            for (unsigned code = 0; code < 16; code++) {
+            for (unsigned code = 0; code < 16 * 4; code++) {
                 uint8_t octets[LENGTHS] = {0};
                 put_label(octets, 1, 2, 3);
-                octets[5] = TUP_IAM, octets[8] = (uint8_t)(count << 4);
+                octets[5] = TUP_IAM, octets[7] = (uint8_t)(code / 16), octets[8] = (uint8_t)(count << 4);
                 for (unsigned i = 0; i < (count + 1) / 2; i++)
                     octets[9 + i] = 0x21;
                 uint8_t *octet = octets + 9 + place / 2;
-                *octet = (uint8_t)(place % 2 ? (*octet & 15) | code << 4 : (*octet & 240) | code);
+                *octet = (uint8_t)(place % 2 ? (*octet & 15) | code % 16 << 4 : (*octet & 240) | code % 16);
                 compare_read(octets, 9 + (count + 1) / 2, TUP_MESSAGE_OCTETS, NULL);
             }
 }
@@ -264,8 +259,9 @@ static void read_damaged(uint32_t times)
 }
 
 /* Messages in good order on circuit 3 of four, one for each format: a plain one, an ACM, and IAMs with 1 to 15 address signals, as
-   digits to the end and with ST as the last. Gives the length; what lies behind it in `octets` are digits too, so that of a
-   message read too long it is the length alone that is wrong. */
+   digits to the end and with ST as the last. The nature of address is 3 where there are signals enough, else 2, which one bit makes
+   3. Gives the length; what lies behind it in `octets` are digits too, so that of a message read too long it is the length alone
+   that is wrong. */
 enum { FORMATS = 2 + 2 * TUP_ADDRESS_MAX };
 static size_t good_message(unsigned format, uint8_t *octets)
 {
@@ -274,12 +270,13 @@ static size_t good_message(unsigned format, uint8_t *octets)
     if (m.heading == TUP_ACM)
         m.acm = 5;
     if (m.heading == TUP_IAM) {
-        m.category = 10, m.indicators = 0x203;
+        m.category = 10;
         m.address_len = format / 2;
         for (size_t i = 0; i < m.address_len; i++)
             m.address[i] = (uint8_t)(1 + i % 9);
         if (format % 2)
             m.address[m.address_len - 1] = 15;
+        m.indicators = address_short(m.address, m.address_len) ? 0x202 : 0x203;
     }
     memset(octets, 0x21, LENGTHS);
     return ref_write(m.own, m.far, m.count, m.cic, m.heading, m.acm, m.category, m.indicators, m.address, m.address_len, octets,
@@ -342,18 +339,95 @@ static int place_there_is(uint32_t refusal, uint32_t place)
         return place == 5;
     case TUP_WRONG_ADDRESS:
         return place >= 8 && place <= 16;
+    case TUP_SHORT_NUMBER:
+        return place == 8;
     default:
         return 0;
     }
 }
 
-/* All of these have been given, and no others. */
-static void every_place_seen(void)
+/* All of these have been given, and no others; so have the refusals of the writer. */
+static void every_refusal_seen(void)
 {
-    for (uint32_t refusal = 0; refusal < 256; refusal++)
+    static const uint8_t of_writer[] = {TUP_ACCEPTED, TUP_NO_SUCH_GROUP, TUP_NO_SUCH_CIRCUIT, TUP_NO_SUCH_EVENT,
+                                        TUP_NO_SUCH_HEADING, TUP_WRONG_ADDRESS, TUP_SHORT_NUMBER, TUP_OUTPUT_TOO_SHORT};
+    for (uint32_t refusal = 0; refusal < 256; refusal++) {
         for (uint32_t place = 0; place < LENGTHS; place++)
             if ((seen[refusal][place] > 0) != place_there_is(refusal, place))
                 differ("refusal %u with place %u was given %llu times", refusal, place, seen[refusal][place]);
+        if ((unwritten[refusal] > 0) != (memchr(of_writer, (int)refusal, sizeof of_writer) != NULL))
+            differ("the writer gave refusal %u %llu times", refusal, unwritten[refusal]);
+    }
+}
+
+/* The octets of an IAM, be its address good or not. */
+static size_t put_iam(uint8_t *octets, const struct message *m)
+{
+    put_label(octets, m->far, m->own, m->cic);
+    octets[5] = TUP_IAM, octets[6] = (uint8_t)m->category, octets[7] = (uint8_t)m->indicators;
+    octets[8] = (uint8_t)(m->indicators >> 8 | m->address_len << 4);
+    for (size_t i = 0; i < m->address_len; i += 2)
+        octets[9 + i / 2] = (uint8_t)(m->address[i] | (i + 1 < m->address_len ? m->address[i + 1] : 0) << 4);
+    return 9 + (m->address_len + 1) / 2;
+}
+
+/* An IAM in good order but for its address, written, and its octets read: one end sends what the other takes, and nothing else.
+   Then the same with too little room, which comes last of all, and in a group without the circuit. */
+static void number_both_ways(const struct message *m)
+{
+    uint8_t octets[LENGTHS] = {0};
+    size_t len = put_iam(octets, m);
+    int is_short = m->indicators % 4 == 3 && address_short(m->address, m->address_len);
+    uint32_t written = tup_written_refusal(compare_write(m, TUP_MESSAGE_MAX, NULL));
+    compare_write(m, draw((uint32_t)len), NULL);
+    group(m->far, m->own, m->count);
+    uint32_t read = tup_read_refusal(compare_read(octets, len, TUP_MESSAGE_OCTETS, NULL));
+    if (read != written)
+        differ("the writer's refusal is %u, and the reader's %u", written, read);
+    if (read != TUP_WRONG_ADDRESS && read != (is_short ? TUP_SHORT_NUMBER : TUP_ACCEPTED))
+        differ("a number that is %sshort is refused %u", is_short ? "" : "not ", read);
+    compare_read(octets, len, draw(TUP_MESSAGE_OCTETS), NULL);
+    group(m->far, m->own, m->cic);
+    compare_read(octets, len, TUP_MESSAGE_OCTETS, NULL);
+}
+
+/* Every address of one to five signals, of the codes that are told apart and two digits, with every nature; the other indicators
+   are drawn. Then every value of the indicators, with addresses on both sides of the bound. */
+static void every_small_number(void)
+{
+    static const uint8_t codes[] = {0, 9, 10, 11, 12, 15};
+    static const size_t lengths[] = {1, 3, 4, 5};
+    struct message m = {.own = 2, .far = 1, .count = 4, .cic = 3, .heading = TUP_IAM, .category = 10};
+    unsigned addresses = 1;
+    for (m.address_len = 1; m.address_len <= 5; m.address_len++) {
+        addresses *= sizeof codes;
+        for (unsigned i = 0; i < 4 * addresses; i++) {
+            unsigned rest = i / 4;
+            m.indicators = i % 4 + 4 * draw(512);
+            for (size_t k = 0; k < m.address_len; k++, rest /= (unsigned)sizeof codes)
+                m.address[k] = codes[rest % sizeof codes];
+            number_both_ways(&m);
+        }
+    }
+    for (unsigned i = 0; i < 4 * 2048; i++) {
+        m.indicators = i / 4, m.address_len = lengths[i % 4];
+        draw_address(m.address, m.address_len);
+        number_both_ways(&m);
+    }
+}
+
+/* IAMs of any indicators to any address, most of them with few signals, and some of these spare or an ST. */
+static void numbers_at_random(uint32_t times)
+{
+    for (uint32_t i = 0; i < times; i++) {
+        struct message m = draw_message(TUP_IAM);
+        m.indicators = draw(2048);
+        m.address_len = 1 + draw(chance(4) ? 15 : 5);
+        draw_address(m.address, m.address_len);
+        if (chance(8))
+            m.address[draw((uint32_t)m.address_len)] = (uint8_t)draw(16);
+        number_both_ways(&m);
+    }
 }
 
 /* Every heading and length of address, the other fields drawn near their bounds. */
@@ -372,18 +446,20 @@ static void write_every_shape(void)
             m.indicators = near[draw(NEAR)];
         if (chance(2))
             m.cic = near[draw(NEAR)];
-        draw_address(&m, shape / 64 % LENGTHS);
+        m.address_len = shape / 64 % LENGTHS;
+        draw_address(m.address, m.address_len);
         compare_write(&m, chance(4) ? draw(LENGTHS) : TUP_MESSAGE_MAX, NULL);
     }
 }
 
-/* Every value of an octet in every place of every length of address. */
+/* Every value of an octet in every place of every length of address, with every nature. */
 static void write_every_code(void)
 {
     for (size_t len = 1; len < LENGTHS; len++)
         for (size_t place = 0; place < len; place++)
-            for (unsigned code = 0; code < 256; code++) {
+            for (unsigned code = 0; code < 256 * 4; code++) {
                 struct message m = {.own = 2, .far = 1, .count = 4, .cic = 3, .heading = TUP_IAM, .address_len = len};
+                m.indicators = code / 256;
                 memset(m.address, 1, len);
                 m.address[place] = (uint8_t)code;
                 compare_write(&m, TUP_MESSAGE_MAX, NULL);
@@ -422,7 +498,7 @@ static void write_every_output(void)
             for (size_t out_len = 0; out_len < OUTPUT; out_len++) {
                 struct message m = draw_message(headings[heading]);
                 if (m.heading == TUP_IAM)
-                    draw_address(&m, count);
+                    draw_number(&m, count);
                 compare_write(&m, out_len, NULL);
             }
 }
@@ -559,12 +635,15 @@ int main(int argc, char **argv)
     write_every_value();
     write_wide_numbers();
     write_every_output();
+    every_small_number();
     no_octets();
     vast_lengths();
     lengths_beyond_places();
     read_damaged(times);
+    numbers_at_random(times / 4);
     round_trips(times);
-    every_place_seen();
+    every_refusal_seen();
     covered("%llu reads, %llu of them taken; %llu writes, %llu of them taken", reads, read_well, writes, written_well);
+    covered("short numbers: %llu were not read, %llu not written", seen[TUP_SHORT_NUMBER][8], unwritten[TUP_SHORT_NUMBER]);
     return 0;
 }

@@ -9,34 +9,30 @@
 #include <stdlib.h>
 #include <string.h>
 
-enum { LENGTH_MAX = 255 };
+enum { LENGTH_MAX = 255, REFUSALS = TUP_SHORT_NUMBER + 1 };
 
 struct group {
     uint32_t own, far, count;
 };
 
-static unsigned long seen[15][LENGTH_MAX + 1], headings_read[256];
+static unsigned long seen[REFUSALS][LENGTH_MAX + 1], headings_read[256];
 
 /* A message that this group can read, unless its circuit is beyond the group; its length. */
 static size_t draw_good(const struct group *to, uint8_t *octets)
 {
-    static const uint8_t digits[] = {0, 1, 2, 3, 4, 5, 6, 7, 8, 9, 11, 12};
     uint8_t address[TUP_ADDRESS_MAX];
     uint32_t heading = headings[chance(2) ? draw(2) : draw(HEADINGS)], cic = chance(20) ? draw(4096) : draw(to->count);
     int iam = heading == TUP_IAM;
     size_t address_len = iam ? 1 + draw(TUP_ADDRESS_MAX) : 0;
-    for (size_t i = 0; i < address_len; i++)
-        address[i] = digits[draw(sizeof digits)];
-    if (iam && chance(2))
-        address[address_len - 1] = 15;
+    draw_address(address, address_len);
     return ref_write(to->far, to->own, to->count, cic, heading, heading == TUP_ACM ? draw(64) : 0, iam ? draw(64) : 0,
-                     iam ? draw(2048) : 0, address, address_len, octets, LENGTH_MAX) >> 8;
+                     iam ? draw_indicators(address, address_len) : 0, address, address_len, octets, LENGTH_MAX) >> 8;
 }
 
 /* Damages a message in place and gives its new length. What lies behind it in `octets` was drawn before. */
 static size_t damaged(uint8_t *octets, size_t len)
 {
-    switch (draw(5)) {
+    switch (draw(6)) {
     case 0: /* up to three bits, anywhere */
         for (uint32_t bits = 1 + draw(3); bits > 0; bits--)
             octets[draw((uint32_t)len)] ^= (uint8_t)(1u << draw(8));
@@ -48,6 +44,9 @@ static size_t damaged(uint8_t *octets, size_t len)
         return len - 3 + draw(7);
     case 3: /* any length */
         return draw(LENGTH_MAX + 1);
+    case 4: /* the nature of address, 3 then, for which the number may be too short; where there is none, the heading */
+        octets[len > 7 ? 7 : 5] |= 3;
+        return len;
     default: /* other octets altogether */
         for (size_t i = 0; i < len; i++)
             octets[i] = (uint8_t)draw(256);
@@ -104,7 +103,7 @@ static void save_lengths(void)
     size_t len = put_group(file, to.own, to.far, to.count);
     for (unsigned start = 0; start < 20; start++)
         for (size_t octets_len = 0; octets_len <= LENGTH_MAX; octets_len++) {
-            uint8_t octets[LENGTH_MAX] = {0x01, 0x80, 0x00, 0x30, 0x00, TUP_IAM, 0x0a, 0x03};
+            uint8_t octets[LENGTH_MAX] = {0x01, 0x80, 0x00, 0x30, 0x00, TUP_IAM, 0x0a, 0x02};
             memset(octets + 9, 0x21, sizeof octets - 9);
             octets[8] = (uint8_t)(start << 4);
             if (start > 15)
@@ -119,8 +118,8 @@ static void save_lengths(void)
 static void save_cuts(void)
 {
     static const uint8_t clf[] = {0x01, 0x80, 0x00, 0x30, 0x00, 0x46}, acm[] = {0x01, 0x80, 0x00, 0x20, 0x00, 0x14, 0x05},
-                         even[] = {0x01, 0x80, 0x00, 0x30, 0x00, 0x11, 0x0a, 0x03, 0x20, 0xf1},
-                         odd[] = {0x01, 0x80, 0x00, 0x10, 0x00, 0x11, 0x0a, 0x03, 0x30, 0x21, 0x0f}, too_long[20] = {0};
+                         even[] = {0x01, 0x80, 0x00, 0x30, 0x00, 0x11, 0x0a, 0x02, 0x20, 0xf1},
+                         odd[] = {0x01, 0x80, 0x00, 0x10, 0x00, 0x11, 0x0a, 0x02, 0x30, 0x21, 0x0f}, too_long[20] = {0};
     uint8_t file[128];
     size_t len = put_group(file, 1, 2, 4);
     len += put_message(file + len, clf, sizeof clf);
@@ -174,8 +173,8 @@ static void expect_all_seen(void)
         if (seen[TUP_WRONG_ADDRESS][octet] == 0)
             differ("no message is refused 10 at octet %u", octet);
     if (seen[TUP_WRONG_LABEL][0] == 0 || seen[TUP_WRONG_LABEL][1] == 0 || seen[TUP_NO_SUCH_HEADING][5] == 0 ||
-        seen[TUP_NO_SUCH_CIRCUIT][3] == 0)
-        differ("no message is refused for its label, its heading or its circuit");
+        seen[TUP_SHORT_NUMBER][8] == 0 || seen[TUP_NO_SUCH_CIRCUIT][3] == 0)
+        differ("no message is refused for its label, its heading, a short number or its circuit");
     for (unsigned i = 0; i < HEADINGS; i++)
         if (headings_read[headings[i]] == 0)
             differ("no message with heading %02x is read", headings[i]);
@@ -190,8 +189,9 @@ int main(int argc, char **argv)
     save_all();
     expect_all_seen();
     unsigned long all = 0;
-    for (unsigned i = 0; i < 15 * (LENGTH_MAX + 1); i++)
+    for (unsigned i = 0; i < REFUSALS * (LENGTH_MAX + 1); i++)
         all += seen[i / (LENGTH_MAX + 1)][i % (LENGTH_MAX + 1)];
-    covered("%u files, %lu messages drawn for them, %lu of those read", saved(), all, seen[TUP_ACCEPTED][0]);
+    covered("%u files, %lu messages drawn for them, %lu of those read and %lu refused for a short number", saved(), all,
+            seen[TUP_ACCEPTED][0], seen[TUP_SHORT_NUMBER][8]);
     return 0;
 }

@@ -457,7 +457,7 @@ uint64_t ref_select(uint32_t own, uint32_t far, const uint8_t *table, size_t tab
 
 /* Messages on the link. */
 
-enum { LABEL = 5, CIRCUIT = 3, HEADING = 5, FIXED = 6, COUNT = 8, IAM_FIXED = 9, SIGNALS_MAX = 15, ST = 15 };
+enum { LABEL = 5, CIRCUIT = 3, HEADING = 5, FIXED = 6, INDICATORS = 7, COUNT = 8, IAM_FIXED = 9, SIGNALS_MAX = 15, ST = 15 };
 
 static size_t iam_length(size_t count)
 {
@@ -473,6 +473,19 @@ static unsigned nibble(const uint8_t *octets, size_t i)
 static int code_good(unsigned code, int last)
 {
     return code <= 9 || code == 11 || code == 12 || (code == ST && last);
+}
+
+/* Whether a number has its country code, by the nature of address in the two lowest indicators. */
+static int international(uint32_t indicators)
+{
+    return (indicators & 3) == 3;
+}
+
+/* Whether such a number is too short for an IAM, by its first signal, its last one and how many there are. Its codes are good, so
+   that only the last signal can be ST. Calls to an operator begin with 11 or 12 and may have any length. */
+static int too_short(unsigned first, unsigned last, size_t count)
+{
+    return first != 11 && first != 12 && count - (last == ST) < 4;
 }
 
 /* A message refused: the number in the lowest octet, and in the seven above it which octet of the message was wrong. */
@@ -508,6 +521,8 @@ static uint64_t iam_refusal(const uint8_t *octets, size_t len)
     for (unsigned i = 0; i < count; i++)
         if (!code_good(nibble(octets, i), i + 1 == count))
             return wrong_at(IAM_FIXED + i / 2, 10);
+    if (international(octets[INDICATORS]) && too_short(nibble(octets, 0), nibble(octets, count - 1), count))
+        return wrong_at(COUNT, 17);
     return 0;
 }
 
@@ -529,7 +544,7 @@ static void put_fields(const uint8_t *octets, uint32_t cic, uint8_t *out)
     if (octets[HEADING] != IAM)
         return;
     out[4] = octets[6] & 0x3F;
-    out[5] = octets[7];
+    out[5] = octets[INDICATORS];
     out[6] = octets[COUNT] & 0x07;
     out[7] = octets[COUNT] >> 4;
     for (size_t i = 0; i < out[7]; i++)
@@ -589,8 +604,8 @@ static int address_good(const uint8_t *address, size_t address_len)
 static void put_iam(uint32_t category, uint32_t indicators, const uint8_t *address, size_t address_len, uint8_t *out)
 {
     out[6] = (uint8_t)category;
-    out[7] = (uint8_t)indicators;
-    out[8] = (uint8_t)(indicators >> 8 | address_len << 4);
+    out[INDICATORS] = (uint8_t)indicators;
+    out[COUNT] = (uint8_t)(indicators >> 8 | address_len << 4);
     for (size_t i = 0; i < address_len; i += 2) {
         unsigned later = i + 1 < address_len ? address[i + 1] : 0;
         out[IAM_FIXED + i / 2] = (uint8_t)(address[i] | later << 4);
@@ -610,6 +625,8 @@ uint32_t ref_write(uint32_t own, uint32_t far, uint32_t count, uint32_t cic, uin
         return 3;
     if (heading == IAM && !address_good(address, address_len))
         return 10;
+    if (heading == IAM && international(indicators) && too_short(address[0], address[address_len - 1], address_len))
+        return 17;
     size_t length = heading == IAM ? iam_length(address_len) : heading == ACM ? FIXED + 1 : FIXED;
     if (out_len < length)
         return 11;

@@ -1,5 +1,5 @@
-/* A second reading of the rules in plain C, written from the project's documents 01 and 02 (there T-01 and T-02), that the tests
-   hold the proved archive against and the benchmark measures it by.
+/* A second reading of the rules in plain C, written from the project's documents 01 and 02, that the tests hold the proved archive
+   against and the benchmark measures it by.
    It takes the same arguments as the functions of tup.h and gives the same packed answers, but shares no line with them. */
 #ifndef REFERENCE_H
 #define REFERENCE_H

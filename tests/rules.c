@@ -45,7 +45,7 @@ static struct call {
     const struct row *row;
 } now;
 static unsigned long calls;
-static unsigned messages;
+static unsigned messages, shown[OCTET]; /* on the page, and how many of them with each refusal */
 
 static void describe(void)
 {
@@ -172,6 +172,7 @@ static void read_message(const char *line)
         differ("the message in line %u of the page has refusal %u and place %llu", at, tup_read_refusal(got),
                (unsigned long long)tup_read_place(got));
     messages++;
+    shown[tup_read_refusal(got)]++;
 }
 
 static void read_page(const char *path)
@@ -377,6 +378,16 @@ static void every_name(void)
     }
 }
 
+/* Every refusal that a message can have has an example on the page; 11 is about the output. */
+static void every_refusal_shown(void)
+{
+    static const uint8_t refusals[] = {TUP_ACCEPTED, TUP_NO_SUCH_GROUP, TUP_NO_SUCH_CIRCUIT, TUP_WRONG_LENGTH, TUP_WRONG_LABEL,
+                                       TUP_NO_SUCH_HEADING, TUP_WRONG_ADDRESS, TUP_SHORT_NUMBER};
+    for (unsigned i = 0; i < sizeof refusals; i++)
+        if (shown[refusals[i]] == 0)
+            differ("the page shows no message with refusal %u", refusals[i]);
+}
+
 int main(int argc, char **argv)
 {
     harness_begin("rules", describe);
@@ -389,8 +400,7 @@ int main(int argc, char **argv)
     every_legal();
     every_event();
     every_name();
-    if (messages == 0)
-        differ("the page shows no message that is refused");
+    every_refusal_shown();
     covered("the page's legal flags, events and names as well, and %u messages", messages);
     return 0;
 }
