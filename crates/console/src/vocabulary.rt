@@ -1,6 +1,6 @@
 // The words of the named form. A column's words stand in one text in the order of their numbers, 0 first, with a blank or a line feed
-// between two; a number that is not in use has its digits there. Each function puts a number's word at a place of the room and answers the place behind it; a number that has no word
-// keeps its digits.
+// between two; a number that is not in use has its digits there. Each function puts a number's word at a place of the room and answers
+// the place behind it; a number that has no word keeps its digits.
 
 // One more than the four flags together are worth.
 const FLAGS_END: u8 = 16;
