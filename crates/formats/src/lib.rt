@@ -46,7 +46,10 @@ const CODE_11: u8 = 11;
 
 const CODE_12: u8 = 12;
 
-// The nature of address, which is the two lowest indicators, of an international number, and how many signals besides ST make one long enough.
+// There are so many natures of address, told by the two lowest indicators; that of an international number; and how many signals besides ST make one
+// long enough.
+const NATURES: u32 = 4;
+
 const INTERNATIONAL: u32 = 3;
 
 const ENOUGH_SIGNALS: usize = 4;
@@ -160,7 +163,7 @@ fn few_signals(address: &[u8]) -> bool
 pub fn short(indicators: u32, address: &[u8]) -> bool
     ensures { λ r. ⌜ r ≡ short indicators (now (address .entry)) ⌝ }
 {
-    if indicators % 4 != INTERNATIONAL {
+    if indicators % NATURES != INTERNATIONAL {
         return false;
     }
     if to_operator(address) {

@@ -304,20 +304,21 @@ besidesStIs code rest = (refl, refl, λ other. ap (λ (st : Bool). cond st (besi
 pub toOperatorIs : (code : ℕ) (rest : List ℕ) → (toOperator [] ≡ false) × (toOperator (code ∷ rest) ≡ (eqb code 11 || eqb code 12))
 toOperatorIs code rest = (refl, refl)
 
--- of these, with indicators 3, the third, the fifth and the sixth are long enough or go to an operator; of 1 2 3 with these indicators the first three
+-- with indicators 3 all of these are short but the third, which has four signals, and the fifth and the sixth, which go to an operator
 pub numbersShort : map (short 3) ((1 ∷ 2 ∷ 3 ∷ []) ∷ (1 ∷ 2 ∷ 3 ∷ 15 ∷ []) ∷ (1 ∷ 2 ∷ 3 ∷ 4 ∷ []) ∷ (15 ∷ []) ∷ (11 ∷ []) ∷ (12 ∷ 15 ∷ []) ∷ (1 ∷ 11 ∷ 2 ∷ []) ∷ [])
     ≡ true ∷ true ∷ false ∷ true ∷ false ∷ false ∷ true ∷ []
 unfolding short
 numbersShort = refl
 
+-- with these indicators 1 2 3 is short but for the first three, whose two lowest bits are not 3
 pub naturesShort : map (λ (indicators : ℕ). short indicators (1 ∷ 2 ∷ 3 ∷ [])) (0 ∷ 1 ∷ 2 ∷ 3 ∷ 7 ∷ 11 ∷ 2047 ∷ []) ≡ false ∷ false ∷ false ∷ true ∷ true ∷ true ∷ true ∷ []
 unfolding short
 naturesShort = refl
 
--- an event says nothing of indicators, and is never refused 17; nor is a choice
 abbrev other : (refusal : ℕ) → Bool
 other refusal = not (eqb refusal 17)
 
+-- an event says nothing of indicators, and is never refused 17; nor is a choice
 pub eventsNever17 : (own far : ℕ) (table : List ℕ) (cic : ℕ) (event : Found) → stepIn own far table cic event .answer .refusal ≡ 17 → ⊥
 eventsNever17 own far table cic event e = answerFits other (eventRules own far table cic event) (noneIs event) 16 (sym (eventRefused own far table cic event) ∙ e)
   where
