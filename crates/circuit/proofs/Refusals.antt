@@ -17,11 +17,23 @@ exactly [] n = (λ e. omega arith, λ g. absurd g)
 exactly (refuse k true ∷ rules) n = (λ e. inl (refl, e), λ g. ⊎-elim (λ h. h .1) (λ h. absurd (subst T (h .0) tt)) g)
 exactly (refuse k false ∷ rules) n = (λ e. inr (refl, exactly rules n .0 e), λ g. ⊎-elim (λ h. absurd (subst T (sym (h .0)) tt)) (λ h. exactly rules n .1 (h .1)) g)
 
+-- What the number of every rule fits, the answer does.
+abbrev pub everyNumber : (ℕ → Bool) → List Rule → Bool
+everyNumber test [] = true
+everyNumber test (refuse n holds ∷ rules) = test n && everyNumber test rules
+
+pub answerFits : (test : ℕ → Bool) (rules : List Rule) → T (everyNumber test rules) → (n : ℕ) → firstOf rules ≡ suc n → T (test (suc n))
+answerFits test [] t n e = absurd (omega arith)
+answerFits test (refuse k true ∷ rules) t n e = subst (λ (m : ℕ). T (test m)) e (left (test k) (everyNumber test rules) t)
+answerFits test (refuse k false ∷ rules) t n e = answerFits test rules (right (test k) (everyNumber test rules) t) n e
+
 -- no rule has the number 0, which stands for none
+abbrev aRefusal : ℕ → Bool
+aRefusal zero = false
+aRefusal (suc n) = true
+
 abbrev pub numbered : List Rule → Bool
-numbered [] = true
-numbered (refuse zero holds ∷ rules) = false
-numbered (refuse (suc n) holds ∷ rules) = numbered rules
+numbered = everyNumber aRefusal
 
 -- No refusal is given exactly when no test holds.
 pub clear : (rules : List Rule) → T (numbered rules) → firstOf rules ≡ 0 → Clear rules
@@ -34,16 +46,6 @@ pub noneGiven : (rules : List Rule) → Clear rules → firstOf rules ≡ 0
 noneGiven [] c = refl
 noneGiven (refuse n true ∷ rules) c = absurd (subst T (c .0) tt)
 noneGiven (refuse n false ∷ rules) c = noneGiven rules (c .1)
-
--- What the number of every rule fits, the answer does.
-abbrev pub everyNumber : (ℕ → Bool) → List Rule → Bool
-everyNumber test [] = true
-everyNumber test (refuse n holds ∷ rules) = test n && everyNumber test rules
-
-pub answerFits : (test : ℕ → Bool) (rules : List Rule) → T (everyNumber test rules) → (n : ℕ) → firstOf rules ≡ suc n → T (test (suc n))
-answerFits test [] t n e = absurd (omega arith)
-answerFits test (refuse k true ∷ rules) t n e = subst (λ (m : ℕ). T (test m)) e (left (test k) (everyNumber test rules) t)
-answerFits test (refuse k false ∷ rules) t n e = answerFits test rules (right (test k) (everyNumber test rules) t) n e
 
 -- Rules at the end of a list decide exactly where none before them does.
 pub beforeThem : (rules more : List Rule) (n : ℕ) → firstOf rules ≡ suc n → firstOf (rules ++ more) ≡ suc n

@@ -1,6 +1,6 @@
 -- The tests that the claims use, told as plain facts, for whoever states the claims without them.
 -- Assumes nothing.
-use mathlib.Core.Bool.{Bool, true, false, not, _&&_, _||_}
+use mathlib.Core.Bool.{Bool, true, false, not, _&&_, _||_, and-false}
 use mathlib.Core.Logic.{_⊎_, inl, inr}
 use mathlib.Core.Path.{_≡_, refl, subst, subst₂, sym}
 use Prim.Native.Nat.{ℕ}
@@ -8,7 +8,6 @@ use lib.Dec.{T, eqb, eqb→eq}
 use borrow.Author.Tests.{ne-eqb}
 use Rattle.circuit.specs.declared.Signal.the-variants.{Rlg}
 use Rattle.circuit.proofs.Every.{left, right}
-use Rattle.ends.proofs.Words.{and-false}
 use Rattle.ends.specs.Ends.{sameStage, awaitsReset, marks, unheard}
 
 byCases : {X : Type 0} (a b : Bool) → (T a → X) → (T b → X) → T (a || b) → X

@@ -1,6 +1,6 @@
 -- Two ends that stand in a room of a closed list stay in it, whatever happens: the rules of `Rooms` hold of queues of any length.
 -- Assumes nothing.
-use mathlib.Core.Bool.{Bool, true, false, cond, not, _&&_, _||_}
+use mathlib.Core.Bool.{Bool, true, false, cond, not, _&&_, _||_, and-false}
 use mathlib.Core.List.{List, [], _∷_, _++_}
 use mathlib.Core.Path.{_≡_, refl}
 use Prim.Native.Nat.{ℕ, zero, suc}
@@ -8,7 +8,7 @@ use lib.Dec.{T, eqb, eqb→eq, eqb-refl}
 use lib.ListN.{getD}
 use Rattle.circuit.proofs.Every.{left, right, both, isTrue}
 use Rattle.ends.specs.Calm.{still, Leave.atOnce, Leave.onceCalm}
-use Rattle.ends.proofs.Words.{and-false, words, fail, blo, mute, push, kept, bloIn, quiet, next, Run, Run.ran, run, Calm, Calm.stirred, Half, Half.half, runOf, restOf, bloFor, calmOf, view, sameHalf, same-half, joinAll, joined, allIn, member, at-member, has, family, absorbs, run-absorbs, run-push, endOf, reach, outgoing, run-ends}
+use Rattle.ends.proofs.Words.{words, fail, blo, mute, push, kept, bloIn, quiet, next, Run, Run.ran, run, Calm, Calm.stirred, Half, Half.half, runOf, restOf, bloFor, calmOf, view, sameHalf, same-half, joinAll, joined, allIn, member, at-member, has, family, absorbs, run-absorbs, run-push, endOf, reach, outgoing, run-ends}
 use Rattle.ends.proofs.Moves.{Move, Move.to, Table, among, sameMove, same-move, causeOf}
 use Rattle.ends.proofs.Rooms.{Room, Rooms, Need, Need.room, Need.impossible, over, stirs, comes, goes, glides, calmly, takesRest, takes, emptied, byWords, byHost, byCalm, byLull, follows, sound, sameRoom, place, listed, inRole, meets, meetsFrom, closedAt, closed}
 

@@ -2,7 +2,7 @@
 -- after those at the head of the queue, and the words that stand behind them. Of an end that is calm, and may therefore restart and lose nothing,
 -- it also sees the run as it would then be.
 -- Assumes nothing.
-use mathlib.Core.Bool.{Bool, true, false, cond, not, _&&_, _||_}
+use mathlib.Core.Bool.{Bool, true, false, cond, not, _&&_, _||_, or-false}
 use mathlib.Core.List.{List, [], _∷_, _++_, append-assoc, append-nil}
 use mathlib.Core.Path.{_≡_, refl, ap, sym, _∙_}
 use Prim.Native.Nat.{ℕ, suc}
@@ -300,14 +300,6 @@ kept-more (y ∷ w) x = rw (kept-more w x) (by (mute y) (mute x))
     by true false = refl
     by false true = refl
     by false false = sym (behind-push y (kept w) x)
-
-pub and-false : (a : Bool) → (a && false) ≡ false
-and-false true = refl
-and-false false = refl
-
-or-false : (a : Bool) → (a || false) ≡ a
-or-false true = refl
-or-false false = refl
 
 blo-more : (w : List ℕ) (x : ℕ) → bloIn (w ++ (x ∷ [])) ≡ (bloIn w || eqb x blo)
 blo-more [] x = or-false (eqb x blo)

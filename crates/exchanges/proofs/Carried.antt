@@ -2,7 +2,7 @@
 -- holds of two ends that are reached is kept so by either.
 -- Assumes nothing.
 use mathlib.Core.Path.{_≡_, refl, sym, ap, _∙_, subst}
-use mathlib.Core.Bool.{Bool, true, false, _&&_}
+use mathlib.Core.Bool.{Bool, true, false, _&&_, and-false}
 use mathlib.Core.List.{List, _++_, append-nil}
 use Prim.Native.Nat.{ℕ, _≤_}
 use borrow.Author.Tests.{eq-eqb, ne-eqb, eqb-true, eqb-false}
@@ -21,7 +21,7 @@ use Rattle.group.specs.Table.{stepIn}
 use Rattle.group.proofs.Laws.{Carries, Same, byCases, others, keepsLength, isStep}
 use Rattle.ends.specs.Machine.{Both, acted}
 use Rattle.ends.specs.Ends.{End, end, inOrder, does}
-use Rattle.ends.proofs.Words.{and-false, heard, heard-more}
+use Rattle.ends.proofs.Words.{heard, heard-more}
 use Rattle.ends.proofs.Standing.{Holds, sameWords}
 use Rattle.exchanges.specs.Link.{Message, Exchange, Particulars, good, writesAll, steps, refused13, Has}
 use Rattle.exchanges.proofs.Seen.{signals, signals-more, sentBeside, sentHere}

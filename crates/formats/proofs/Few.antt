@@ -1,7 +1,7 @@
 -- Short international numbers: what a loop over the signals has counted, and by what a number is short or not.
 -- Assumes nothing.
 use mathlib.Core.Path.{_≡_, refl, sym, ap, _∙_}
-use mathlib.Core.Bool.{Bool, true, false, cond, not, _&&_, _||_}
+use mathlib.Core.Bool.{Bool, true, false, cond, not, _&&_, _||_, and-true, and-false}
 use mathlib.Core.List.{List, [], _∷_}
 use Prim.Native.Nat.{ℕ, suc, _+_, _%_, _<_, _≤_}
 use native.Mathlib.Nat.{add-zero}
@@ -60,30 +60,19 @@ module _ (indicators : ℕ) (s : List ℕ) where
 
   pub exempt : toOperator s ≡ true → short indicators s ≡ false
   unfolding short
-  exempt e = ap (λ (b : Bool). international indicators && (ltb (besidesSt s) 4 && not b)) e ∙ go (international indicators) (ltb (besidesSt s) 4)
-    where
-      go : (a b : Bool) → (a && (b && false)) ≡ false
-      go true true = refl
-      go true false = refl
-      go false b = refl
+  exempt e =
+      ap (λ (b : Bool). international indicators && (ltb (besidesSt s) 4 && not b)) e ∙ ap (λ (b : Bool). international indicators && b) (and-false (ltb (besidesSt s) 4))
+      ∙ and-false (international indicators)
 
   pub byCount : indicators % 4 ≡ 3 → toOperator s ≡ false → ltb (besidesSt s) 4 ≡ short indicators s
   unfolding short
   byCount h e =
       sym (ap (λ (b : Bool). international indicators && (ltb (besidesSt s) 4 && not b)) e ∙ ap (λ (b : Bool). b && (ltb (besidesSt s) 4 && true)) (eq-eqb _ _ h)
-      ∙ go (ltb (besidesSt s) 4))
-    where
-      go : (b : Bool) → (b && true) ≡ b
-      go true = refl
-      go false = refl
+      ∙ and-true (ltb (besidesSt s) 4))
 
   pub longEnough : 4 ≤ besidesSt s → short indicators s ≡ false
   unfolding short
-  longEnough h = ap (λ (b : Bool). international indicators && (b && not (toOperator s))) (le-ltb _ _ h) ∙ go (international indicators)
-    where
-      go : (a : Bool) → (a && false) ≡ false
-      go true = refl
-      go false = refl
+  longEnough h = ap (λ (b : Bool). international indicators && (b && not (toOperator s))) (le-ltb _ _ h) ∙ and-false (international indicators)
 
 -- BY THE SIGNALS ONE BY ONE
 

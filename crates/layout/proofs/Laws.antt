@@ -1,9 +1,9 @@
 -- Laws of where things lie in a lent table: what is put is read back, and every other octet stays. All above goes by these.
 -- Assumes nothing.
 use mathlib.Core.Path.{_≡_, refl, _∙_, subst}
-use mathlib.Core.Bool.{Bool, true, false, not, cond, _&&_, _||_}
+use mathlib.Core.Bool.{Bool, true, false, not, cond, _&&_, _||_, and-false}
 use mathlib.Core.List.{List}
-use Prim.Native.Nat.{ℕ, zero, suc, _+_, _*_, _-_, _/_, _%_, _^_, _<_, _≤_}
+use Prim.Native.Nat.{ℕ, zero, suc, _+_, _*_, _-_, _/_, _%_, _<_, _≤_}
 use native.Mathlib.Omega.{arith}
 use native.Mathlib.Numerals.{unary-clauses}
 use lib.Dec.{T, eqb, eqb→eq, leb, ltb}
@@ -97,11 +97,7 @@ allowedInReset s f e = rw e (go (leb f 15) refl)
 
 pub allowedAbove : (s f : ℕ) → 12 < s → allowed s f ≡ false
 unfolding recordOf
-allowedAbove s f h = rw (lt-leb s 12 h) (go (leb f 15))
-  where
-    go : (b : Bool) → (b && false) ≡ false
-    go true = refl
-    go false = refl
+allowedAbove s f h = rw (lt-leb s 12 h) (and-false (leb f 15))
 
 -- a circuit of the table has its octets there
 inside : (octets i : ℕ) → i < recordsIn octets → tableOctets i + recordOctets ≤ octets

@@ -1,7 +1,7 @@
 -- Where a refusal names an octet, those before it could stand in a message that is read, or in one that is only short: for each such refusal here is one.
 -- Assumes nothing.
 use mathlib.Core.Path.{_≡_, refl, sym, ap, ap₂, _∙_, subst}
-use mathlib.Core.Bool.{Bool, true, false, cond, not, _&&_, _||_}
+use mathlib.Core.Bool.{Bool, true, false, cond, not, _&&_, _||_, and-false}
 use mathlib.Core.List.{List, [], _∷_, _++_}
 use mathlib.Core.Logic.{_⊎_, ⊎-elim, inl, inr}
 use Prim.Native.Nat.{ℕ, zero, suc, _+_, _*_, _-_, _/_, _%_, _<_, _≤_}
@@ -123,10 +123,15 @@ oneFits zero = omega arith
 oneFits (suc zero) = omega arith
 oneFits (suc (suc i)) = omega arith
 
+-- the octet 11, which says the signals 11 and 0, and zeros
 zeros : (n i : ℕ) → getD {A = ℕ} (replicate n 0) i 0 ≡ 0
 zeros zero i = refl
 zeros (suc n) zero = refl
 zeros (suc n) (suc i) = zeros n i
+
+filling : (n i : ℕ) → (getD {A = ℕ} (11 ∷ replicate n 0) i 0 ≡ 11) ⊎ (getD {A = ℕ} (11 ∷ replicate n 0) i 0 ≡ 0)
+filling n zero = inl refl
+filling n (suc i) = inr (zeros n i)
 
 -- a CLF on circuit 0
 clfOf : (own far : ℕ) → List ℕ
@@ -229,13 +234,11 @@ module _ (own far : ℕ) (good : badGroup own far 4096 ≡ false) where
           there : p ≤ length xs
           there = let l = inside in omega arith
 
-          -- the octet 11 says the signals 11 and 0
           abbrev tail : List ℕ
           tail = 11 ∷ replicate (length xs - p - 1) 0
 
           tailFits : (j : ℕ) → getD tail j 0 < 256
-          tailFits zero = omega arith
-          tailFits (suc j) = subst (λ (k : ℕ). k < 256) (sym (zeros (length xs - p - 1) j)) (omega arith)
+          tailFits j = ⊎-elim (λ e. omega (arith, e)) (λ e. omega (arith, e)) (filling (length xs - p - 1) j)
 
           abbrev zs : List ℕ
           zs = take p xs ++ tail
@@ -265,21 +268,9 @@ module _ (own far : ℕ) (good : badGroup own far 4096 ≡ false) where
           standing : (j : ℕ) → j < wordIn xs / 4096 → Kept j ⊎ Filled j
           standing j m = go (ltb (j / 2) (i / 2)) refl
             where
-              -- behind that octet there are zeros
-              behind-it : (k : ℕ) → getD zs (p + k) 0 ≡ cond (eqb k 0) 11 0
-              behind-it k = behind xs octets p there tail tailFits k ∙ go k
-                where
-                  go : (k : ℕ) → getD tail k 0 ≡ cond (eqb k 0) 11 0
-                  go zero = refl
-                  go (suc k) = zeros (length xs - p - 1) k ∙ ap (λ (b : Bool). cond b 11 0) (sym (ne-eqb (suc k) 0 (λ e. omega arith)))
-
               halved : (b : Bool) (o : ℕ) → (o ≡ 11) ⊎ (o ≡ 0) → (cond b (o % 16) (o / 16) ≡ 0) ⊎ (cond b (o % 16) (o / 16) ≡ 11)
               halved true o e = ⊎-elim (λ e. inr (ap (λ (o : ℕ). o % 16) e)) (λ e. inl (ap (λ (o : ℕ). o % 16) e)) e
               halved false o e = inl (⊎-elim (λ e. ap (λ (o : ℕ). o / 16) e) (λ e. ap (λ (o : ℕ). o / 16) e) e)
-
-              either : (b : Bool) (o : ℕ) → o ≡ cond b 11 0 → (o ≡ 11) ⊎ (o ≡ 0)
-              either true o e = inl e
-              either false o e = inr e
 
               go : (b : Bool) → ltb (j / 2) (i / 2) ≡ b → Kept j ⊎ Filled j
               go true e =
@@ -288,8 +279,8 @@ module _ (own far : ℕ) (good : badGroup own far 4096 ≡ false) where
               go false e =
                   let h : i / 2 ≤ j / 2 = ltb-false _ _ e in
                   let at : p + (j / 2 - i / 2) ≡ 9 + j / 2 = omega arith in
-                  inr (halved (eqb (j % 2) 0) (getD zs (9 + j / 2) 0)
-                  (either (eqb (j / 2 - i / 2) 0) _ (ap (λ (k : ℕ). getD zs k 0) (sym at) ∙ behind-it (j / 2 - i / 2))))
+                  let o : getD tail (j / 2 - i / 2) 0 ≡ getD zs (9 + j / 2) 0 = sym (behind xs octets p there tail tailFits (j / 2 - i / 2)) ∙ ap (λ (k : ℕ). getD zs k 0) at in
+                  inr (halved (eqb (j % 2) 0) (getD zs (9 + j / 2) 0) (subst (λ (o : ℕ). (o ≡ 11) ⊎ (o ≡ 0)) o (filling (length xs - p - 1) (j / 2 - i / 2))))
 
           fine : (j : ℕ) → j < wordIn zs / 4096 → badCode (signalIn zs j) (ltb (suc j) (wordIn zs / 4096)) ≡ false
           fine j l = ⊎-elim kept (⊎-elim (filled 0 refl) (filled 11 refl)) (standing j (subst (λ (k : ℕ). j < k) word l))
@@ -331,17 +322,13 @@ module _ (own far : ℕ) (good : badGroup own far 4096 ≡ false) where
               short-of : Bool
               short-of = short (wordIn zs % 2048) (address zs fit)
 
-              neither : (b c : Bool) → (b && (false && c)) ≡ false
-              neither true c = refl
-              neither false c = refl
-
               byNumber : (i / 2 ≡ 0 → ⊥) → (b : Bool) → ltb (wordIn xs / 4096) 4 ≡ b → short-of ≡ shortAnyway p xs
               byNumber further false e =
                   let h : 4 ≤ wordIn xs / 4096 = ltb-false _ _ e in
                   let q : fieldBy (formatOf 0x11) COUNT xs ≡ wordIn xs / 4096 = counted xs octets in
                   longEnough (wordIn zs % 2048) (address zs fit) (omega (arith, noneIsSt (address zs fit) noSt, long zs fit, word))
                   ∙ sym (ap (λ (b : Bool). eqb p 10 && (b && short (fieldBy (formatOf 0x11) INDICATORS xs) (address xs octets))) (ne-eqb (fieldBy (formatOf 0x11) COUNT xs) 3 (λ z. omega (arith, sym q ∙ z)))
-                  ∙ neither (eqb p 10) (short (fieldBy (formatOf 0x11) INDICATORS xs) (address xs octets)))
+                  ∙ and-false (eqb p 10))
               byNumber further true e =
                   let h : wordIn xs / 4096 < 4 = ltb-true _ _ e in
                   let l = within in

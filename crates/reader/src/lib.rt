@@ -5,7 +5,7 @@ use codes::Named;
 ghost use mathlib.Core.Path.{_≡_};
 ghost use mathlib.Core.Bool.{cond, not, _||_};
 ghost use lib.Dec.{eqb};
-ghost use Prim.Native.Nat.{_+_, _/_, _%_, _<_, _≤_, _^_};
+ghost use Prim.Native.Nat.{_+_, _/_, _%_, _≤_, _^_};
 ghost use lib.ListN.{length, getD, drop, take};
 ghost use Rattle.words.specs.Octets.{over};
 ghost use Rattle.formats.specs.Messages.{half, iamHeading};
@@ -115,10 +115,8 @@ fn plain_fields(circuit: Cic, heading: u8, acm: u8) -> Fields
     }
 }
 
-// An IAM that is read; the number of its two octets has the count in its upper half octet.
-fn iam_fields(circuit: Cic, category: u8, word: u64, codes: [u8; 15]) -> Fields
-    requires { ⌜ word < 65536 ⌝ }
-    ensures { λ r. ⌜ r ≡ iamFields circuit category (word % 2048) (word / 4096) codes ⌝ }
+fn iam_fields(circuit: Cic, category: u8, indicators: u32, count: u8, address: [u8; 15]) -> Fields
+    ensures { λ r. ⌜ r ≡ iamFields circuit category indicators count address ⌝ }
 {
     Fields {
         refusal: names::ACCEPTED,
@@ -127,9 +125,9 @@ fn iam_fields(circuit: Cic, category: u8, word: u64, codes: [u8; 15]) -> Fields
         heading: formats::IAM as u8,
         acm: 0,
         category: category,
-        indicators: (word % SPARE_INDICATOR) as u32,
-        count: (word / formats::COUNT_PLACE) as u8,
-        address: codes,
+        indicators: indicators,
+        count: count,
+        address: address,
     }
 }
 
@@ -154,13 +152,20 @@ fn read_iam(records: usize, circuit: Cic, octets: &[u8]) -> Fields
     if bad < count {
         return refused(names::WRONG_ADDRESS, (formats::IAM_OCTETS + bad / 2) as u64);
     }
-    if formats::short((word % SPARE_INDICATOR) as u32, &codes[..count]) {
+    let indicators = (word % SPARE_INDICATOR) as u32;
+    if formats::short(indicators, &codes[..count]) {
         return refused(names::SHORT_NUMBER, formats::COUNT_OCTET);
     }
     if records <= circuit.0 as usize {
         return refused(names::NO_SUCH_CIRCUIT, formats::CIC_OCTET);
     }
-    iam_fields(circuit, octets[6] % SPARE_BITS, word, codes)
+    iam_fields(
+        circuit,
+        octets[6] % SPARE_BITS,
+        indicators,
+        count as u8,
+        codes,
+    )
 }
 
 // A message whose label is in order.

@@ -72,8 +72,8 @@ refused-requires-2 c κs = search needs
 returns-4 : tie.Need-returns-4
 returns-4 c = c .refused2 .ensures ∙ sym (spoilt _ _ _ _ (spelt (c .before .before .before .before)) _ (c .before .before .first-bad .ensures) (c .before .if4 .taken))
 
-cast-short : tie.Need-cast-short
-cast-short c = search needs
+cast-indicators : tie.Need-cast-indicators
+cast-indicators c = search needs
 
 array-share-prefix-codes-2 : tie.Need-array-share-prefix-codes-2
 array-share-prefix-codes-2 c = room (c .before .before .before .before .before .before .before .before .before .before .before .args .records) _ _ _ (spelt (c .before .before .before))
@@ -106,8 +106,11 @@ returns-6 c =
 shared-slice-read-iam-fields : tie.Need-shared-slice-read-iam-fields
 shared-slice-read-iam-fields c = search needs
 
+cast-iam-fields : tie.Need-cast-iam-fields
+cast-iam-fields c = let w = c .before .before .before .before .before .before .before .before .before .before .before .before in omega (arith, w .number .ensures, w .before .shared-slice-known3 .given 7, w .before .shared-slice-known3 .given 8)
+
 iam-fields-requires : tie.Need-iam-fields-requires
-iam-fields-requires c κs = let w = c .before .before .before .before .before .before .before .before .before .before .before .before in omega (arith, w .number .ensures, w .before .shared-slice-known3 .given 7, w .before .shared-slice-known3 .given 8)
+iam-fields-requires c κs = search needs
 
 returns-7 : tie.Need-returns-7
 returns-7 c =
@@ -139,7 +142,7 @@ read-iam-spec =
     add-refused
     refused-requires-2
     returns-4
-    cast-short
+    cast-indicators
     array-share-prefix-codes-2
     slice-aggregate-short
     short-requires
@@ -149,5 +152,6 @@ read-iam-spec =
     refused-requires-4
     returns-6
     shared-slice-read-iam-fields
+    cast-iam-fields
     iam-fields-requires
     returns-7)
