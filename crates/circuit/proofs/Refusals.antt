@@ -1,12 +1,13 @@
 -- Laws of a list of refusals: when a number is given, when none is, and what a rule at the end adds.
 -- Assumes nothing.
 use mathlib.Core.Path.{_≡_, refl, sym, _∙_, subst}
-use mathlib.Core.Bool.{Bool, true, false, _&&_}
+use mathlib.Core.Bool.{Bool, true, false, not, cond, _&&_}
 use mathlib.Core.List.{List, [], _∷_, _++_}
 use mathlib.Core.Logic.{_↔_, inl, inr, ⊎-elim}
 use Prim.Native.Nat.{ℕ, zero, suc}
 use native.Mathlib.Omega.{arith}
-use lib.Dec.{T}
+use lib.Dec.{T, eqb}
+use borrow.Author.Tests.{eq-eqb}
 use Rattle.circuit.proofs.Every.{left, right}
 use Rattle.circuit.specs.Refusals.{refuse, Rule, firstOf, Given, Clear}
 
@@ -57,6 +58,33 @@ pub afterThem : (rules more : List Rule) → Clear rules → firstOf (rules ++ m
 afterThem [] more c = refl
 afterThem (refuse k true ∷ rules) more c = absurd (subst T (c .0) tt)
 afterThem (refuse k false ∷ rules) more c = afterThem rules more (c .1)
+
+-- Two lists that differ in the test of a last rule alone give the same number, unless one of them gives that rule's.
+pub butForLast : (rules : List Rule) (n : ℕ) (a b : Bool) → (firstOf (rules ++ (refuse n a ∷ [])) ≡ n → ⊥) → (firstOf (rules ++ (refuse n b ∷ [])) ≡ n → ⊥)
+    → firstOf (rules ++ (refuse n a ∷ [])) ≡ firstOf (rules ++ (refuse n b ∷ []))
+butForLast [] n true b p q = absurd (p refl)
+butForLast [] n false true p q = absurd (q refl)
+butForLast [] n false false p q = refl
+butForLast (refuse k true ∷ rules) n a b p q = refl
+butForLast (refuse k false ∷ rules) n a b p q = butForLast rules n a b p q
+
+-- And the number of the last rule stays given if its test still holds.
+pub lastHolds : (rules : List Rule) (n : ℕ) (a b : Bool) → (T a → T b) → firstOf (rules ++ (refuse n a ∷ [])) ≡ n → firstOf (rules ++ (refuse n b ∷ [])) ≡ n
+lastHolds [] n a true h e = refl
+lastHolds [] n true false h e = absurd (h tt)
+lastHolds [] n false false h e = e
+lastHolds (refuse k true ∷ rules) n a b h e = e
+lastHolds (refuse k false ∷ rules) n a b h e = lastHolds rules n a b h e
+
+-- Where it is given, and no rule before it has its number, its test holds, and none before it does.
+pub onlyLast : (rules : List Rule) (n : ℕ) (a : Bool) → T (everyNumber (λ k. not (eqb k (suc n))) rules) → firstOf (rules ++ (refuse (suc n) a ∷ [])) ≡ suc n → T a × ((b : Bool) → firstOf (rules ++ (refuse (suc n) b ∷ [])) ≡ cond b (suc n) 0)
+onlyLast [] n true t e = (tt, λ b. refl)
+onlyLast [] n false t e = absurd (omega arith)
+onlyLast (refuse k true ∷ rules) n a t e = absurd (notItself k (suc n) (left (not (eqb k (suc n))) (everyNumber (λ k. not (eqb k (suc n))) rules) t) e)
+  where
+    notItself : (k n : ℕ) → T (not (eqb k n)) → k ≡ n → ⊥
+    notItself k n t e = subst (λ (b : Bool). T (not b)) (eq-eqb k n e) t
+onlyLast (refuse k false ∷ rules) n a t e = onlyLast rules n a (right (not (eqb k (suc n))) (everyNumber (λ k. not (eqb k (suc n))) rules) t) e
 
 -- Two lists with the same numbers and conditions are the same.
 abbrev pub Alike : List Rule → List Rule → Type 0

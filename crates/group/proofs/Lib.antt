@@ -3,3 +3,7 @@ pub mod Laws
 pub mod Ranks
 pub mod Valid
 pub mod Lands
+pub mod Local
+pub mod Meets
+pub mod Batches
+pub mod Orders

@@ -171,7 +171,7 @@ pub spentAt : (own far : ℕ) (table : List ℕ) (cic : ℕ) (event : Found) →
 spentAt own far table cic event e = high own far table cic event 13 (omega arith) e .1 refl
 
 -- so a group that starts idle answers 13 at none of its first 2^64 - 1 events
-once : (b : Bool) (n m k : ℕ) → m ≡ cond b (n + 1) n → n ≤ k → m ≤ k + 1
+pub once : (b : Bool) (n m k : ℕ) → m ≡ cond b (n + 1) n → n ≤ k → m ≤ k + 1
 once true n m k e h = omega arith
 once false n m k e h = omega arith
 

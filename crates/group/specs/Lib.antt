@@ -3,3 +3,4 @@ pub mod Table
 pub mod Way
 pub mod Landing
 pub mod Runs
+pub mod Batches

@@ -57,6 +57,14 @@ allowed s f = leb f 15 && valid (recordOf s f)
 abbrev pub allowedAt : List ℕ → ℕ → Bool
 allowedAt table i = allowed (stateAt table i) (flagsAt table i)
 
+-- what is held of circuit i apart from its rank: all that an event there goes by
+pub record Held : Type 0 where
+  pub state : ℕ
+  pub flags : ℕ
+
+abbrev pub heldAt : List ℕ → ℕ → Held
+heldAt table i = record { state = stateAt table i; flags = flagsAt table i }
+
 -- all that stands at circuit i; zeros where the table has no such circuit
 abbrev pub stored : (state flags rank : ℕ) → Stored
 stored s f r = record { state = s; flags = f; rank = r }
