@@ -6,4 +6,5 @@ pub mod Demand3
 pub mod Demand3Link
 pub mod Restarts
 pub mod Requests
+pub mod Batches
 pub mod Contracts
