@@ -14,11 +14,11 @@ use Rattle.circuit.specs.declared.Sends.{Sends}
 use Rattle.circuit.specs.declared.Outcome.{Outcome}
 use Rattle.circuit.specs.Groups.{controls}
 use Rattle.codes.specs.declared.Found.{Found}
-use Rattle.layout.specs.Layout.{recordsIn, stateAt, flagsAt, recordOf, recordAt, put}
+use Rattle.layout.specs.Layout.{Held, recordsIn, flagsAt, recordOf, recordAt, put}
 use Rattle.layout.proofs.Laws.{flagsLow, putFlags, rankedFlags}
 use Rattle.step.specs.Step.{stepFound}
 use Rattle.group.specs.Table.{stepIn}
-use Rattle.group.proofs.Laws.{Carries, Same, byCases, others, keepsLength, isStep}
+use Rattle.group.proofs.Laws.{Carries, byCases, others, keepsLength, isStep}
 use Rattle.ends.specs.Machine.{Both, acted}
 use Rattle.ends.specs.Ends.{End, end, inOrder, does}
 use Rattle.ends.proofs.Words.{heard, heard-more}
@@ -60,7 +60,7 @@ module _ (own far cic : ℕ) (table : List ℕ) (g : Good own far cic table) (i 
     where
       go : (b : Bool) → eqb i cic ≡ b → flagsAt (stepIn own far table i e .table) cic ≤ 15
       go true q = rw (eqb-true i cic q) lowHere
-      go false q = rw (others own far table i e cic (λ z. eqb-false i cic q (sym z)) .flags) (g .low)
+      go false q = subst (λ (h : Held). h .flags ≤ 15) (sym (others own far table i e cic (λ z. eqb-false i cic q (sym z)) .held)) (g .low)
 
   stepped : Good own far cic (stepIn own far table i e .table)
   stepped = record {
@@ -147,11 +147,8 @@ module _ (own far cic : ℕ) (table u : List ℕ) (g : Good own far cic table) (
         (subst (λ (q : List Signal). Holds c (end (recordAt table cic) (mine w)) (end (recordAt u cic) q)) (sym nothing) h);
   }
     where
-      same : Same table (stepIn own far table i e .table) cic
-      same = others own far table i e cic (λ z. other (sym z))
-
       unchanged : recordAt (stepIn own far table i e .table) cic ≡ recordAt table cic
-      unchanged = ap (λ (n : ℕ). recordOf n (flagsAt (stepIn own far table i e .table) cic)) (same .state) ∙ ap (recordOf (stateAt table cic)) (same .flags)
+      unchanged = ap (λ (h : Held). recordOf (h .state) (h .flags)) (others own far table i e cic (λ z. other (sym z)) .held)
 
       sent : List Message
       sent = writesAll own far (recordsIn (length table)) i p (inOrder (stepIn own far table i e .answer .sends))

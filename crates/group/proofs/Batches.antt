@@ -139,9 +139,10 @@ sparesStill i (List·Permᴰ·trans p q) s = sparesStill i q (sparesStill i p s)
 pub apartStill : {xs ys : List Handed} → Rearranged xs ys → Apart xs → Apart ys
 apartStill List·Permᴰ·nil o = o
 apartStill (List·Permᴰ·cons {l₂ = l₂} e r) o = (subst (λ (x : Handed). Spares (x .cic) l₂) e (sparesStill _ r (o .0)), apartStill r (o .1))
-apartStill (List·Permᴰ·swap {l = l} e f) o =
-    ((λ z. o .0 .0 (ap cicOf e ∙ sym z ∙ ap cicOf (sym f)), subst (λ (x : Handed). Spares (x .cic) l) f (o .1 .0)),
-      (subst (λ (x : Handed). Spares (x .cic) l) e (o .0 .1), o .1 .1))
+apartStill (List·Permᴰ·swap {l = l} e f) o = (
+  (λ z. o .0 .0 (ap cicOf e ∙ sym z ∙ ap cicOf (sym f)), subst (λ (x : Handed). Spares (x .cic) l) f (o .1 .0)),
+  (subst (λ (x : Handed). Spares (x .cic) l) e (o .0 .1), o .1 .1),
+)
 apartStill (List·Permᴰ·trans p q) o = apartStill q (apartStill p o)
 
 -- and each circuit has the events that it had

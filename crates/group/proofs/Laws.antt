@@ -17,10 +17,10 @@ use Rattle.codes.specs.declared.Found.{Found}
 use Rattle.step.proofs.Refused.{keepsFound}
 use Rattle.step.specs.Frees.{freed}
 use Rattle.words.specs.Words.{largest}
-use Rattle.layout.specs.Layout.{recordsIn, counterIn, stateAt, flagsAt, rankAt, recordOf, recordAt, put}
-use Rattle.layout.proofs.Laws.{recordBack, putLength, putRecord, putKeepsRank, otherState, otherFlags, otherRank, rankedLength, rankedState, rankedFlags, rankedRecord}
-use Rattle.answers.specs.Answers.{refusal}
-use Rattle.group.specs.Table.{Step, nowhere, refusedAt, stored, released, taking, answering, outcomeAt, stepIn}
+use Rattle.layout.specs.Layout.{Held, recordsIn, counterIn, stateAt, flagsAt, rankAt, heldAt, recordOf, recordAt, put}
+use Rattle.layout.proofs.Laws.{recordBack, putLength, putRecord, putKeepsRank, otherHeld, otherRank, rankedLength, rankedHeld, rankedRecord}
+use Rattle.answers.specs.Answers.{Answer, refusal}
+use Rattle.group.specs.Table.{Step, nowhere, refusedAt, taken, stored, released, taking, answering, outcomeAt, stepIn}
 use Rattle.group.specs.Way.{freeing, accepted, landed, onCircuit}
 use Rattle.group.proofs.Cases.{stepped, noGroup, noCircuit, inGroup}
 use Rattle.group.specs.Refusals.{refusalIn}
@@ -33,9 +33,13 @@ pub record Untouched (before : List ℕ) (s : Step) : Type 0 where
 
 -- a circuit has the octets that it had
 pub record Same (before after : List ℕ) (i : ℕ) : Type 0 where
-  pub state : stateAt after i ≡ stateAt before i
-  pub flags : flagsAt after i ≡ flagsAt before i
+  pub held : heldAt after i ≡ heldAt before i
   pub rank : rankAt after i ≡ rankAt before i
+
+-- what an answer says by its refusal, what is held of the circuit, and what one circuit's step says
+abbrev pub saying : (refusal : ℕ) → Held → Outcome → Answer
+saying zero h o = taken o
+saying (suc n) h o = cond (leb (suc n) 2) (refusal (suc n) 0 0) (refusal (suc n) (h .state) (h .flags))
 
 -- the answer is what one circuit's step says, and so is the circuit's record then, in the answer and in the table
 pub record Carries (cic : ℕ) (o : Outcome) (s : Step) : Type 0 where
@@ -107,8 +111,7 @@ module _ (own far : ℕ) (table : List ℕ) (cic : ℕ) (event : Found) where
       byCases (λ s. Same table (s .table) i)
       same same (λ n h. same) (λ h l a f. beside (o .after))
       (λ h l a f k. record {
-        state = rankedState (put table cic (o .after)) cic i _ ∙ beside (o .after) .state;
-        flags = rankedFlags (put table cic (o .after)) cic i _ ∙ beside (o .after) .flags;
+        held = rankedHeld (put table cic (o .after)) cic i _ ∙ beside (o .after) .held;
         rank = otherRank (put table cic (o .after)) cic i _ other ∙ beside (o .after) .rank;
       })
     where
@@ -116,10 +119,10 @@ module _ (own far : ℕ) (table : List ℕ) (cic : ℕ) (event : Found) where
       o = outcomeAt own far table cic event
 
       same : Same table table i
-      same = record { state = refl; flags = refl; rank = refl }
+      same = record { held = refl; rank = refl }
 
       beside : (r : Record) → Same table (put table cic r) i
-      beside r = record { state = otherState table cic i r other; flags = otherFlags table cic i r other; rank = putKeepsRank table cic i r }
+      beside r = record { held = otherHeld table cic i r other; rank = putKeepsRank table cic i r }
 
   pub keepsLength : length (stepIn own far table cic event .table) ≡ length table
   keepsLength =
@@ -153,22 +156,34 @@ module _ (own far : ℕ) (table : List ℕ) (cic : ℕ) (event : Found) where
           let k : o ≡ Rows.refused (o .refusal) (recordAt table cic) = keepsFound (controls own far cic) (recordAt table cic) event (eqb-false _ _ e) in
           record { refusal = refl; shown = sym (ap (λ (x : Outcome). x .after) k); stored = sym (ap (λ (x : Outcome). x .after) k); sends = sym (ap (λ (x : Outcome). x .sends) k); ind = sym (ap (λ (x : Outcome). x .ind) k) }
 
-  -- each refusal number is given exactly when docs/RULES.md says
-  pub refusals : stepIn own far table cic event .answer .refusal ≡ refusalIn own far table cic event
+  -- an answer goes by nothing else in the table
+  pub answers : stepIn own far table cic event .answer ≡ saying (refusalIn own far table cic event) (heldAt table cic) (outcomeAt own far table cic event)
   unfolding stepIn
-  refusals = numbered (refusalIn own far table cic event)
+  answers = go (refusalIn own far table cic event)
     where
       o : Outcome
       o = outcomeAt own far table cic event
 
-      byFreed : (b : Bool) → cond b (released table cic o) (stored table cic o) .answer .refusal ≡ 0
+      byFreed : (b : Bool) → cond b (released table cic o) (stored table cic o) .answer ≡ taken o
       byFreed true = refl
       byFreed false = refl
 
-      byPlace : (n : ℕ) (b : Bool) → cond b (nowhere n table) (refusedAt n table cic) .answer .refusal ≡ n
+      byPlace : (n : ℕ) (b : Bool) → cond b (nowhere n table) (refusedAt n table cic) .answer ≡ cond b (refusal n 0 0) (refusal n (stateAt table cic) (flagsAt table cic))
       byPlace n true = refl
       byPlace n false = refl
 
-      numbered : (n : ℕ) → answering n table cic o .answer .refusal ≡ n
-      numbered zero = byFreed (freed (stateAt table cic) o)
-      numbered (suc n) = byPlace (suc n) (leb (suc n) 2)
+      go : (n : ℕ) → answering n table cic o .answer ≡ saying n (heldAt table cic) o
+      go zero = byFreed (freed (stateAt table cic) o)
+      go (suc n) = byPlace (suc n) (leb (suc n) 2)
+
+  -- each refusal number is given exactly when docs/RULES.md says
+  pub refusals : stepIn own far table cic event .answer .refusal ≡ refusalIn own far table cic event
+  refusals = ap (λ (a : Answer). a .refusal) answers ∙ numbered (refusalIn own far table cic event)
+    where
+      shows : (n s f : ℕ) (b : Bool) → cond b (refusal n 0 0) (refusal n s f) .refusal ≡ n
+      shows n s f true = refl
+      shows n s f false = refl
+
+      numbered : (n : ℕ) → saying n (heldAt table cic) (outcomeAt own far table cic event) .refusal ≡ n
+      numbered zero = refl
+      numbered (suc n) = shows (suc n) (stateAt table cic) (flagsAt table cic) (leb (suc n) 2)

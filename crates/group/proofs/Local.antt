@@ -4,7 +4,7 @@
 use mathlib.Core.Path.{_≡_, refl, sym, ap, _∙_, subst}
 use mathlib.Core.Bool.{Bool, true, false, not, cond, _&&_}
 use mathlib.Core.List.{List, [], _∷_, _++_}
-use Prim.Native.Nat.{ℕ, zero, suc, _+_, _<_, _≤_}
+use Prim.Native.Nat.{ℕ, _+_, _<_, _≤_}
 use native.Mathlib.Omega.{arith}
 use lib.Dec.{T, eqb, leb, le→leb, leb→le}
 use lib.ListN.{length}
@@ -21,31 +21,24 @@ use Rattle.codes.specs.declared.Found.{Found}
 use Rattle.codes.specs.declared.Found.the-variants.{Is, Missing}
 use Rattle.words.specs.Words.{largest}
 use Rattle.step.specs.Refusals.{foundRules}
-use Rattle.step.specs.Frees.{freed, freesFound}
+use Rattle.step.specs.Step.{stepFound}
+use Rattle.step.specs.Frees.{freesFound}
 use Rattle.step.proofs.Always.{freesListedFound}
 use Rattle.step.proofs.Refused.{refusesFound}
-use Rattle.answers.specs.Answers.{Answer, refusal}
-use Rattle.layout.specs.Layout.{Held, heldAt, recordsIn, counterIn, stateAt, flagsAt, recordOf, recordAt, allowedAt, put}
-use Rattle.layout.proofs.Laws.{putState, putFlags, putLength, putKeepsCounter, rankedState, rankedFlags, rankedCounter}
+use Rattle.layout.specs.Layout.{Held, holding, heldAt, recordsIn, counterIn, stateAt, recordOf, recordAt, allowed, put}
+use Rattle.layout.proofs.Laws.{putHeld, putLength, putKeepsCounter, rankedHeld, rankedCounter}
 use Rattle.group.specs.Refusals.{refusalIn}
-use Rattle.group.specs.Table.{Step, nowhere, refusedAt, stored, released, answering, outcomeAt, stepIn}
-use Rattle.group.proofs.Laws.{byCases, refusals}
-
--- what an answer shows
-abbrev shown : Answer → Held
-shown a = record { state = a .state; flags = a .flags }
-
-abbrev isHeld : {s₁ s₂ f₁ f₂ : ℕ} → s₁ ≡ s₂ → f₁ ≡ f₂ → _≡_ {A = Held} (record { state = s₁; flags = f₁ }) (record { state = s₂; flags = f₂ })
-isHeld p q = λ i. record { state = p i; flags = q i }
+use Rattle.group.specs.Table.{outcomeAt, stepIn}
+use Rattle.group.proofs.Laws.{saying, byCases, answers, refusals}
 
 -- a circuit's event leaves there what its answer shows, and what was there if it is refused
 pub leaves : (own far : ℕ) (table : List ℕ) (cic : ℕ) (event : Found)
-    → let s = stepIn own far table cic event in heldAt (s .table) cic ≡ cond (eqb (s .answer .refusal) 0) (shown (s .answer)) (heldAt table cic)
+    → let s = stepIn own far table cic event in heldAt (s .table) cic ≡ cond (eqb (s .answer .refusal) 0) (holding (s .answer .state) (s .answer .flags)) (heldAt table cic)
 leaves own far table cic event =
-    byCases own far table cic event (λ s. heldAt (s .table) cic ≡ cond (eqb (s .answer .refusal) 0) (shown (s .answer)) (heldAt table cic))
+    byCases own far table cic event (λ s. heldAt (s .table) cic ≡ cond (eqb (s .answer .refusal) 0) (holding (s .answer .state) (s .answer .flags)) (heldAt table cic))
     refl refl (λ n h. rw (ne-eqb n 0 h) refl)
-    (λ h l a f. isHeld (putState table cic r h) (putFlags table cic r h))
-    (λ h l a f k. isHeld (rankedState (put table cic r) cic cic _ ∙ putState table cic r h) (rankedFlags (put table cic r) cic cic _ ∙ putFlags table cic r h))
+    (λ h l a f. putHeld table cic r h)
+    (λ h l a f k. rankedHeld (put table cic r) cic cic _ ∙ putHeld table cic r h)
   where
     r : Record
     r = outcomeAt own far table cic event .after
@@ -77,87 +70,74 @@ module _ (own far : ℕ) (table : List ℕ) (cic : ℕ) (event : Found) where
           go true e = tt
           go false e = absurd (omega arith)
 
--- no rule before 13 has that number
-earlier : (r : Record) (event : Found) → T (everyNumber (λ k. not (eqb k 13)) (foundRules r event))
-earlier r (Is (Arrives s)) = tt
-earlier r (Is (Ordered k)) = tt
-earlier r (Is (RunsOut t)) = tt
-earlier r Missing = tt
-
 -- two tables of a group that hold the same at a circuit
-module _ (own far : ℕ) (t u : List ℕ) (cic : ℕ) (event : Found) (octets : length t ≡ length u) (held : heldAt t cic ≡ heldAt u cic) where
-  sameState : stateAt t cic ≡ stateAt u cic
-  sameState = ap (λ (h : Held). h .state) held
+module _ (own far : ℕ) (t u : List ℕ) (cic : ℕ) (event : Found) (octets : length t ≡ length u) (same : heldAt t cic ≡ heldAt u cic) where
+  -- the rules before 13, the first rule that holds by what 13 asks, and what that is
+  abbrev before13 : (records : ℕ) → Held → List Rule
+  before13 n h = refuse 1 (badGroup own far n) ∷ refuse 2 (leb n cic) ∷ refuse 12 (not (allowed (h .state) (h .flags))) ∷ foundRules (recordOf (h .state) (h .flags)) event
 
-  sameFlags : flagsAt t cic ≡ flagsAt u cic
-  sameFlags = ap (λ (h : Held). h .flags) held
+  abbrev refusedBy : List ℕ → (full : Bool) → ℕ
+  refusedBy table full = firstOf (before13 (recordsIn (length table)) (heldAt table cic) ++ (refuse 13 full ∷ []))
 
-  -- the rules before 13, and what 13 asks
-  abbrev before13 : List ℕ → List Rule
-  before13 table =
-      refuse 1 (badGroup own far (recordsIn (length table)))
-      ∷ refuse 2 (leb (recordsIn (length table)) cic)
-      ∷ refuse 12 (not (allowedAt table cic))
-      ∷ foundRules (recordAt table cic) event
+  abbrev frees : Held → Bool
+  frees h = freesFound (controls own far cic) (h .state) event
 
   abbrev spent : List ℕ → Bool
-  spent table = freesFound (controls own far cic) (stateAt table cic) event && leb largest (counterIn table)
+  spent table = frees (heldAt table cic) && leb largest (counterIn table)
 
-  sameBefore13 : before13 t ≡ before13 u
-  sameBefore13 = rw (octets, sameState, sameFlags) refl
+  refuses : (table : List ℕ) → stepIn own far table cic event .answer .refusal ≡ refusedBy table (spent table)
+  refuses table = refusals own far table cic event
 
-  -- so the first rule that holds is the same, whatever 13 asks
-  alike : (b : Bool) → firstOf (before13 t ++ (refuse 13 b ∷ [])) ≡ firstOf (before13 u ++ (refuse 13 b ∷ []))
-  alike b = ap (λ (rules : List Rule). firstOf (rules ++ (refuse 13 b ∷ []))) sameBefore13
+  -- the first rule that holds is the same in both, whatever 13 asks
+  alike : (full : Bool) → refusedBy t full ≡ refusedBy u full
+  alike full = λ i. firstOf (before13 (recordsIn (octets i)) (same i) ++ (refuse 13 full ∷ []))
 
   -- 13 at a counter is 13 at every higher one
   pub still13 : counterIn t ≤ counterIn u → stepIn own far t cic event .answer .refusal ≡ 13 → stepIn own far u cic event .answer .refusal ≡ 13
-  still13 h e = refusals own far u cic event ∙ lastHolds (before13 u) 13 (spent t) (spent u) higher (sym (alike (spent t)) ∙ sym (refusals own far t cic event) ∙ e)
+  still13 h e = refuses u ∙ lastHolds (before13 (recordsIn (length u)) (heldAt u cic)) 13 (spent t) (spent u) higher (sym (alike (spent t)) ∙ sym (refuses t) ∙ e)
     where
       higher : T (spent t) → T (spent u)
       higher s =
-          both (freesFound (controls own far cic) (stateAt u cic) event) (leb largest (counterIn u))
-          (rw sameState at (left (freesFound (controls own far cic) (stateAt t cic) event) (leb largest (counterIn t)) s))
-          (le→leb largest (counterIn u) (omega (arith, h, leb→le largest (counterIn t) (right (freesFound (controls own far cic) (stateAt t cic) event) (leb largest (counterIn t)) s))))
+          both (frees (heldAt u cic)) (leb largest (counterIn u))
+          (subst (λ (h : Held). T (frees h)) same (left (frees (heldAt t cic)) (leb largest (counterIn t)) s))
+          (le→leb largest (counterIn u) (omega (arith, h, leb→le largest (counterIn t) (right (frees (heldAt t cic)) (leb largest (counterIn t)) s))))
 
   -- an event that is refused 13 in one table and not in the other is taken there, and the counter rises
   pub rises13 : stepIn own far u cic event .answer .refusal ≡ 13 → (stepIn own far t cic event .answer .refusal ≡ 13 → ⊥)
       → counterIn (stepIn own far t cic event .table) ≡ counterIn t + 1
   rises13 e not13 =
-      freesRises own far t cic event (refusals own far t cic event ∙ go (spent t) (λ k. not13 (refusals own far t cic event ∙ k)) (alike (spent t) ∙ k .1 (spent t)))
-      (isTrue _ (rw (← sameState) at (left (freesFound (controls own far cic) (stateAt u cic) event) (leb largest (counterIn u)) (k .0))))
+      freesRises own far t cic event (go (spent t) (refuses t ∙ alike (spent t) ∙ k .1 (spent t)))
+      (isTrue (frees (heldAt t cic)) (subst (λ (h : Held). T (frees h)) (sym same) (left (frees (heldAt u cic)) (leb largest (counterIn u)) (k .0))))
     where
-      k : T (spent u) × ((b : Bool) → firstOf (before13 u ++ (refuse 13 b ∷ [])) ≡ cond b 13 0)
-      k = onlyLast (before13 u) 12 (spent u) (earlier (recordAt u cic) event) (sym (refusals own far u cic event) ∙ e)
+      -- no rule before 13 has that number
+      earlier : (event : Found) → T (everyNumber (λ k. not (eqb k 13)) (foundRules (recordAt u cic) event))
+      earlier (Is (Arrives s)) = tt
+      earlier (Is (Ordered k)) = tt
+      earlier (Is (RunsOut t)) = tt
+      earlier Missing = tt
 
-      go : (b : Bool) → (refusalIn own far t cic event ≡ 13 → ⊥) → refusalIn own far t cic event ≡ cond b 13 0 → refusalIn own far t cic event ≡ 0
-      go true n q = absurd (n q)
-      go false n q = q
+      k : T (spent u) × ((full : Bool) → refusedBy u full ≡ cond full 13 0)
+      k = onlyLast (before13 (recordsIn (length u)) (heldAt u cic)) 12 (spent u) (earlier event) (sym (refuses u) ∙ e)
 
+      go : (full : Bool) → stepIn own far t cic event .answer .refusal ≡ cond full 13 0 → stepIn own far t cic event .answer .refusal ≡ 0
+      go true q = absurd (not13 q)
+      go false q = q
+
+  -- where it is refused 13 in neither
   module _ (p : stepIn own far t cic event .answer .refusal ≡ 13 → ⊥) (q : stepIn own far u cic event .answer .refusal ≡ 13 → ⊥) where
     sameRefusal : refusalIn own far t cic event ≡ refusalIn own far u cic event
     sameRefusal =
         alike (spent t)
-        ∙ butForLast (before13 u) 13 (spent t) (spent u) (λ e. p (refusals own far t cic event ∙ alike (spent t) ∙ e)) (λ e. q (refusals own far u cic event ∙ e))
+        ∙ butForLast (before13 (recordsIn (length u)) (heldAt u cic)) 13 (spent t) (spent u) (λ e. p (refuses t ∙ alike (spent t) ∙ e)) (λ e. q (refuses u ∙ e))
 
     pub sameAnswer : stepIn own far t cic event .answer ≡ stepIn own far u cic event .answer
-    unfolding stepIn
-    sameAnswer = rw (sameRefusal, sameState, sameFlags) (go (refusalIn own far u cic event) (outcomeAt own far u cic event))
-      where
-        byFreed : (b : Bool) (o : Outcome) → cond b (released t cic o) (stored t cic o) .answer ≡ cond b (released u cic o) (stored u cic o) .answer
-        byFreed true o = refl
-        byFreed false o = refl
-
-        byPlace : (n : ℕ) (b : Bool) → cond b (nowhere n t) (record { answer = refusal n (stateAt u cic) (flagsAt u cic); table = t }) .answer ≡ cond b (nowhere n u) (refusedAt n u cic) .answer
-        byPlace n true = refl
-        byPlace n false = refl
-
-        go : (n : ℕ) (o : Outcome) → answering n t cic o .answer ≡ answering n u cic o .answer
-        go zero o = rw sameState (byFreed (freed (stateAt u cic) o) o)
-        go (suc n) o = rw (sameState, sameFlags) (byPlace (suc n) (leb (suc n) 2))
+    sameAnswer =
+        answers own far t cic event
+        ∙ (λ i. saying (sameRefusal i) (same i) (stepFound (controls own far cic) (recordOf (same i .state) (same i .flags)) event))
+        ∙ sym (answers own far u cic event)
 
     pub sameLeft : heldAt (stepIn own far t cic event .table) cic ≡ heldAt (stepIn own far u cic event .table) cic
     sameLeft =
         leaves own far t cic event
-        ∙ (λ i. cond (eqb (sameAnswer i .refusal) 0) (shown (sameAnswer i)) (held i))
+        ∙ (λ i. cond (eqb (sameAnswer i .refusal) 0) (holding (sameAnswer i .state) (sameAnswer i .flags)) (same i))
         ∙ sym (leaves own far u cic event)

@@ -10,7 +10,7 @@ use lib.Dec.{eqb}
 use lib.ListN.{length}
 use Rattle.layout.specs.Layout.{heldAt, counterIn}
 use Rattle.group.specs.Batches.{Handed, given}
-use Rattle.group.proofs.Laws.{Same, others, keepsLength}
+use Rattle.group.proofs.Laws.{others, keepsLength}
 use Rattle.group.proofs.Ranks.{counted, idled, counterRises}
 use Rattle.group.proofs.Local.{still13, sameAnswer, sameLeft}
 
@@ -26,16 +26,14 @@ itself t i = record { octets = refl; held = refl; counter = omega arith }
 module _ (own far : ℕ) where
   -- an event on another circuit
   pub untouched : (u : List ℕ) (x : Handed) (i : ℕ) → (i ≡ x .cic → ⊥) → heldAt (given own far u x .table) i ≡ heldAt u i
-  untouched u x i other =
-      let k : Same u (given own far u x .table) i = others own far u (x .cic) (x .event) i other in
-      λ j. record { state = k .state j; flags = k .flags j }
+  untouched u x i other = others own far u (x .cic) (x .event) i other .held
 
   pub elsewhere : {t u : List ℕ} {i : ℕ} → Meets t u i → (x : Handed) → (i ≡ x .cic → ⊥) → Meets t (given own far u x .table) i
   elsewhere {t} {u} {i} m x other = record {
-      octets = m .octets ∙ sym (keepsLength own far u (x .cic) (x .event));
-      held = m .held ∙ sym (untouched u x i other);
-      counter = omega (arith, m .counter, counterRises (counted own far u (x .cic) (x .event)) (keepsLength own far u (x .cic) (x .event)));
-    }
+    octets = m .octets ∙ sym (keepsLength own far u (x .cic) (x .event));
+    held = m .held ∙ sym (untouched u x i other);
+    counter = omega (arith, m .counter, counterRises (counted own far u (x .cic) (x .event)) (keepsLength own far u (x .cic) (x .event)));
+  }
 
   -- an event on the circuit itself, given to both
   module _ {t u : List ℕ} (x : Handed) (m : Meets t u (x .cic)) (not13 : given own far u x .answer .refusal ≡ 13 → ⊥) where
@@ -53,10 +51,10 @@ module _ (own far : ℕ) where
 
     pub there : Meets (given own far t x .table) (given own far u x .table) (x .cic)
     there = record {
-        octets = keepsLength own far t (x .cic) (x .event) ∙ m .octets ∙ sym (keepsLength own far u (x .cic) (x .event));
-        held = leavesAs;
-        counter = rises (idled u (given own far u x .table) (x .cic)) (rw freesAs at (counted own far t (x .cic) (x .event) .counter)) (counted own far u (x .cic) (x .event) .counter);
-      }
+      octets = keepsLength own far t (x .cic) (x .event) ∙ m .octets ∙ sym (keepsLength own far u (x .cic) (x .event));
+      held = leavesAs;
+      counter = rises (idled u (given own far u x .table) (x .cic)) (rw freesAs at (counted own far t (x .cic) (x .event) .counter)) (counted own far u (x .cic) (x .event) .counter);
+    }
       where
         rises : (b : Bool) → counterIn (given own far t x .table) ≡ cond b (counterIn t + 1) (counterIn t) → counterIn (given own far u x .table) ≡ cond b (counterIn u + 1) (counterIn u)
             → counterIn (given own far t x .table) ≤ counterIn (given own far u x .table)

@@ -122,14 +122,14 @@ module _ (own far : ℕ) where
 
     both : Even txy tyx
     both = record {
-        octets = keepsLength own far tx (y .cic) (y .event) ∙ keepsLength own far t (x .cic) (x .event) ∙ sym (keepsLength own far ty (x .cic) (x .event) ∙ keepsLength own far t (y .cic) (y .event));
-        held = leftHeld;
-        counter =
+      octets = keepsLength own far tx (y .cic) (y .event) ∙ keepsLength own far t (x .cic) (x .event) ∙ sym (keepsLength own far ty (x .cic) (x .event) ∙ keepsLength own far t (y .cic) (y .event));
+      held = leftHeld;
+      counter =
           counts (idled t tx (x .cic)) (idled t ty (y .cic)) (counterIn t) (counterIn tx) (counterIn ty) (counterIn txy) (counterIn tyx)
           (counted own far t (x .cic) (x .event) .counter) (counted own far t (y .cic) (y .event) .counter)
           (rw (← (freesAs own far y yMeets second)) at (counted own far tx (y .cic) (y .event) .counter))
           (rw (← (freesAs own far x xMeets secondToo)) at (counted own far ty (x .cic) (x .event) .counter));
-      }
+    }
 
   -- a batch with at most one event a circuit, of which none is refused 13 in one order
   never13Then : {xs ys : List Handed} → Rearranged xs ys → Apart xs → (table : List ℕ) → Never13 (answered own far table xs) → Never13 (answered own far table ys)

@@ -18,7 +18,7 @@ use Rattle.circuit.proofs.Every.{atBelow, alike, alikeSame}
 use Rattle.words.proofs.Words as words
 use Rattle.words.specs.Words.{putWord, largest}
 use Rattle.layout.specs.Way.{badLength}
-use Rattle.layout.specs.Layout.{counterOctets, recordOctets, tableOctets, recordsIn, counterIn, stateAt, flagsAt, rankAt, flagsOf, recordOf, recordAt, allowed, stored, storedAt, putOctets, put, putCounter, putRank, ranked, idle}
+use Rattle.layout.specs.Layout.{counterOctets, recordOctets, tableOctets, recordsIn, holding, heldAt, counterIn, stateAt, flagsAt, rankAt, flagsOf, recordOf, recordAt, allowed, stored, storedAt, putOctets, put, putCounter, putRank, ranked, idle}
 
 -- a circuit's octets one by one, as the program reads them
 module _ (table : List ℕ) (i at : ℕ) (place : at ≡ tableOctets i) where
@@ -210,6 +210,9 @@ module _ (table : List ℕ) (i : ℕ) (r : Record) (h : i < recordsIn (length ta
       let there : tableOctets i + recordOctets ≤ length table = inside (length table) i h in
       getD-set-same (set table (tableOctets i) (r .state)) (tableOctets i + 1) (flagsOf r) 0 (lt-length-set table (tableOctets i) (r .state) (omega arith))
 
+  pub putHeld : heldAt (put table i r) i ≡ holding (r .state) (flagsOf r)
+  putHeld = λ k. holding (putState k) (putFlags k)
+
   pub putRecord : recordAt (put table i r) i ≡ r
   putRecord = rw (putState, putFlags, recordBack)
 
@@ -246,6 +249,9 @@ module _ (table : List ℕ) (i j n : ℕ) where
   unfolding flagsAt
   rankedFlags = rankedOther table i n (tableOctets j + 1) (omega arith) (λ p q. omega arith)
 
+  pub rankedHeld : heldAt (ranked table i n) j ≡ heldAt table j
+  rankedHeld = λ k. holding (rankedState k) (rankedFlags k)
+
   pub rankedRecord : recordAt (ranked table i n) j ≡ recordAt table j
   rankedRecord = rw (rankedState, rankedFlags)
 
@@ -280,6 +286,9 @@ module _ (table : List ℕ) (i j : ℕ) (r : Record) (other : j ≡ i → ⊥) w
   pub otherFlags : flagsAt (put table i r) j ≡ flagsAt table j
   unfolding flagsAt
   otherFlags = otherOctets table i j other 1 (omega arith) r
+
+  pub otherHeld : heldAt (put table i r) j ≡ heldAt table j
+  otherHeld = λ k. holding (otherState k) (otherFlags k)
 
   pub otherRecord : recordAt (put table i r) j ≡ recordAt table j
   otherRecord = rw (otherState, otherFlags)

@@ -62,8 +62,11 @@ pub record Held : Type 0 where
   pub state : ℕ
   pub flags : ℕ
 
+abbrev pub holding : (state flags : ℕ) → Held
+holding s f = record { state = s; flags = f }
+
 abbrev pub heldAt : List ℕ → ℕ → Held
-heldAt table i = record { state = stateAt table i; flags = flagsAt table i }
+heldAt table i = holding (stateAt table i) (flagsAt table i)
 
 -- all that stands at circuit i; zeros where the table has no such circuit
 abbrev pub stored : (state flags rank : ℕ) → Stored

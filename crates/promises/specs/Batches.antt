@@ -123,8 +123,8 @@ module _ (own far : ℕ) (table : List ℕ) where
       (p .0 ∙ ap (answered own far table) e ∙ sym (q .0), p .1 ∙ ap (λ (zs : List Handed). heldAt (after own far table zs) i) e ∙ sym (q .1))
 
   -- no event of a batch is refused 13, in whatever order, where the counter is below its largest value by as many as there are events
-  pub room : (xs : List Handed) → counterIn table + length xs ≤ largest → No13 (answered own far table xs)
-  room xs h = batches.no13 (answered own far table xs) (orders.roomFor own far table xs h)
+  pub fewNever13 : (xs : List Handed) → counterIn table + length xs ≤ largest → No13 (answered own far table xs)
+  fewNever13 xs h = batches.no13 (answered own far table xs) (orders.roomFor own far table xs h)
 
 -- WHAT DOES DEPEND ON THE ORDER
 

@@ -204,7 +204,7 @@ isTaken = group.took
 pub othersStay : (own far : ℕ) (table : List ℕ) (cic : ℕ) (event : Found) (i : ℕ) → (i ≡ cic → ⊥)
     → let after = stepIn own far table cic event .table in
     (stateAt after i ≡ stateAt table i) × (flagsAt after i ≡ flagsAt table i) × (rankAt after i ≡ rankAt table i)
-othersStay own far table cic event i other = let k = group.others own far table cic event i other in (k .state, k .flags, k .rank)
+othersStay own far table cic event i other = let k = group.others own far table cic event i other in (λ j. k .held j .state, λ j. k .held j .flags, k .rank)
 
 pub lengthStays : (own far : ℕ) (table : List ℕ) (cic : ℕ) (event : Found) → length (stepIn own far table cic event .table) ≡ length table
 lengthStays = group.keepsLength
