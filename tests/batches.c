@@ -189,8 +189,8 @@ static void draw_order(struct given *of, unsigned which)
 
 /* What is promised. */
 
-/* Each event got the answer that it got in the order drawn, and the same states and flags are left: at every circuit but one, or but
-   NONE. */
+/* Each event got the answer that it got in the order drawn, and the same states and flags are left: at every circuit but one, or
+   but NONE. */
 static void expect_as_drawn(const struct given *got, uint32_t but)
 {
     for (uint32_t i = 0; i < now.events; i++) {
@@ -238,12 +238,12 @@ static void expect_each_alone(void)
     }
 }
 
-/* Where less than two circuits were freed, the order leaves no trace in any octet. Else ranks may differ, and so what is chosen. */
+/* Where fewer than two circuits were freed, the order leaves no trace in any octet. Else ranks may differ, and so what is chosen. */
 static void note_ranks(void)
 {
     int differing = memcmp(turned.table, drawn.table, now.len) != 0;
     if (differing && tup_counter(drawn.table) - tup_counter(before) < 2)
-        differ("less than two circuits were freed, and in another order there are other ranks");
+        differ("fewer than two circuits were freed, and in another order there are other ranks");
     if (!differing)
         return;
     met.ranks++;
@@ -497,7 +497,7 @@ static void draw_table(uint32_t circuits, int reached, int with_bad)
 static void try_batch(int several)
 {
     draw_batch(several);
-    try_orders(3);
+    try_orders(4);
     expect_each_alone();
     if (several)
         exchange();
@@ -509,7 +509,7 @@ static void try_batch(int several)
     met.releases += tup_counter(drawn.table) - tup_counter(before);
 }
 
-/* A host that goes on from what each batch has left, and beside it a second table, to which each batch is given in another order. */
+/* A host that goes on from what each batch has left, and beside it a second table that is given each batch in another order. */
 static void random_batches(uint32_t circuits, unsigned which)
 {
     draw_table(circuits, which % 2, which % 4 == 0);
