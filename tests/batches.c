@@ -238,7 +238,7 @@ static void expect_each_alone(void)
     }
 }
 
-/* Where fewer than two circuits were freed, the order leaves no trace in any octet. Else ranks may differ, and so what is chosen. */
+/* Where fewer than two circuits were freed, the order leaves no trace in any octet. Else ranks may differ, and the choice. */
 static void note_ranks(void)
 {
     int differing = memcmp(turned.table, drawn.table, now.len) != 0;
@@ -400,6 +400,7 @@ static void try_pair(const struct record *one, const struct record *other)
     hand_over_anew(&turned);
     expect_as_drawn(&turned, NONE);
     expect_rest_kept(turned.table, EVERY);
+    note_ranks();
     try_full();
 }
 
@@ -415,8 +416,9 @@ static void every_pair(int all)
             try_pair(records + i / (LISTED * LISTED), records + (all ? j : draw(LEGAL)));
     }
     expect_met(met.by_order, "two releases with room for one, where the order tells which event is refused 13");
-    covered("%lu pairs of listed events on two circuits with legal records, in both orders; %lu of them with room for one release "
-            "less than they have, and in %lu the order tells which is refused 13", pairs, met.full, met.by_order);
+    covered("%lu pairs of listed events on two circuits with legal records, in both orders: other ranks in %lu; %lu again with "
+            "room for one release less than they have, and in %lu of these the order tells which is refused 13", pairs, met.ranks,
+            met.full, met.by_order);
 }
 
 /* Random batches. */
@@ -489,8 +491,8 @@ static void draw_table(uint32_t circuits, int reached, int with_bad)
         set_record(cic, records + (with_bad && chance(10) ? LEGAL + draw(BAD) : draw(LEGAL)), rank);
     }
     for (uint32_t i = 0; reached && i < 6 * circuits; i++) {
-        struct event event = draw_event(before, draw(circuits));
-        step(before, &event);
+        now.batch[0] = draw_event(before, draw(circuits));
+        step(before, now.batch);
     }
 }
 
@@ -552,7 +554,7 @@ static void iam_and_seizure(void)
     }
 }
 
-/* Two circuits of ours are freed, the one or the other first; which is then the first to be chosen. */
+/* Two circuits of ours are freed, the one or the other first: that one is then chosen. */
 static void two_freed(void)
 {
     for (uint32_t first = 0; first <= 2; first += 2) {
@@ -580,6 +582,8 @@ static void random_tables(void)
     for (unsigned i = 0; i < sizeof refusals / sizeof *refusals; i++)
         if (met.refused[refusals[i]] == 0)
             differ("never met: an event refused %u", refusals[i]);
+    covered("events accepted %lu, refused 2: %lu, 3: %lu, 4: %lu, 5: %lu, 6: %lu, 12: %lu", met.refused[0], met.refused[2],
+            met.refused[3], met.refused[4], met.refused[5], met.refused[6], met.refused[12]);
     expect_met(met.ranks, "ranks that go by the order");
     expect_met(met.choices, "a choice that goes by the order");
     expect_met(met.exchanged, "two events of one circuit that do something else in the other order");
