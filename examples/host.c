@@ -228,6 +228,64 @@ static void scene_abroad(void)
     wait_seconds(1);
 }
 
+/* A stand-by sends nothing, since the exchange that it stands by for does. */
+static void send_nothing(struct exchange *x, uint32_t circuit, const uint8_t *octets, size_t len)
+{
+    (void)x, (void)circuit, (void)octets, (void)len;
+}
+
+/* Ranks are left out: they go by the order in which circuits were freed. */
+static int same_states_and_flags(const struct exchange *x, const struct exchange *y)
+{
+    for (uint32_t circuit = 0; circuit < CIRCUITS; circuit++)
+        if (tup_record_state(x->table, circuit) != tup_record_state(y->table, circuit) ||
+            tup_record_flags(x->table, circuit) != tup_record_flags(y->table, circuit))
+            return 0;
+    return 1;
+}
+
+static uint32_t would_choose(const struct exchange *x)
+{
+    return tup_selected_circuit(tup_select(x->own, x->far, x->table, sizeof x->table));
+}
+
+/* All that waits for A is one batch, in which no two messages are of one circuit: so the order is of no account, but for the ranks.
+   Messages of one circuit would have to keep theirs. */
+static void hand_over_batch(void)
+{
+    static struct exchange standby;
+    static struct queue batch;
+    standby = *a, batch = sent[1];
+    standby.name = "A's stand-by", standby.send = send_nothing;
+    while (sent[1].waiting > 0)
+        receive(a);
+    for (unsigned i = batch.waiting; i-- > 0;) {
+        unsigned at = (batch.first + i) % QUEUE;
+        exchange_receive(&standby, batch.octets[at], batch.len[at]);
+    }
+    printf("%5u s  states and flags are %s; the next circuit would be %u at A, and %u at its stand-by\n", a->seconds,
+           same_states_and_flags(a, &standby) ? "the same" : "different", would_choose(a), would_choose(&standby));
+}
+
+static void scene_batch(void)
+{
+    printf("\nMessages of four circuits are one batch for A; a stand-by copy of A takes them the other way round\n");
+    exchange_seize(a, 0, &usual);
+    exchange_seize(a, 2, &usual);
+    wait_seconds(1);
+    exchange_command(a, 0, TUP_RELEASE, 0);
+    exchange_command(a, 2, TUP_RELEASE, 0);
+    receive(b);
+    receive(b);
+    exchange_seize(b, 1, &usual);
+    exchange_block(b, 3, 1);
+    hand_over_batch();
+    wait_seconds(1);
+    exchange_command(b, 1, TUP_RELEASE, 0);
+    exchange_block(b, 3, 0);
+    wait_seconds(1);
+}
+
 static void begin(struct exchange *x, const char *name, uint32_t own, uint32_t far)
 {
     x->name = name, x->own = own, x->far = far;
@@ -249,6 +307,7 @@ int main(void)
     scene_failure();
     scene_restart();
     scene_abroad();
+    scene_batch();
     printf("\nAll circuits at the end\n");
     for (uint32_t circuit = 0; circuit < CIRCUITS; circuit++)
         printf("circuit %u: A %s, flags %u; B %s, flags %u\n", circuit, tup_state_name(tup_record_state(a->table, circuit)),

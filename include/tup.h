@@ -198,7 +198,10 @@ TUP_ENUM(tup_timer) {
 
 /* One event on one circuit of the table. Taken, it changes that circuit's record alone, and the counter if it frees the circuit;
    refused, nothing. Order of refusals: 1, 2, 12, 3, then 5, 4 or 6, then 13. The answer is taken apart by the tup_answer_
-   functions below; the rank is read in the table. */
+   functions below; the rank is read in the table.
+   But for 13, the answer depends on nothing in the table but that circuit's state and flags. So, where none is refused 13, events
+   of different circuits may be given in any order: each gets the same answer, and the same states and flags are left. Events of one
+   circuit keep their order. Ranks go by the order in which circuits are freed, and so does what tup_select chooses. */
 uint64_t tup_step(uint32_t own, uint32_t far, uint8_t *table, size_t table_len, uint32_t cic, uint32_t kind, uint32_t code,
                   uint32_t detail);
 

@@ -130,6 +130,16 @@ size_t octets_in(const char *text, uint8_t *octets)
     return len;
 }
 
+struct particulars draw_next(unsigned state)
+{
+    static const struct particulars next[][2] = {
+        {{2, 1, 0}, {1, 0x11, 0}}, {{1, 0x14, 0}, {2, 2, 0}}, {{1, 0x16, 0}, {2, 2, 0}}, {{1, 0x36, 0}, {2, 2, 0}},
+        {{1, 0x56, 0}, {2, 2, 0}}, {{1, 0x17, 0}, {3, 4, 0}}, {{2, 3, 5}, {1, 0x46, 0}}, {{2, 4, 0}, {1, 0x46, 0}},
+        {{2, 4, 1}, {1, 0x46, 0}}, {{2, 5, 0}, {1, 0x46, 0}}, {{2, 6, 0}, {1, 0x46, 0}}, {{3, 4, 0}, {1, 0x46, 0}},
+        {{1, 0x17, 0}, {3, 4, 0}}};
+    return chance(3) ? listed[draw(LISTED)] : next[state][draw(2)];
+}
+
 uint32_t draw_detail(uint32_t command)
 {
     switch (command) {

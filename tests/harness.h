@@ -19,6 +19,9 @@ extern const struct particulars {
 /* Whether some rule tells this detail from others, or it is a neighbour of one that is told apart. */
 int detail_telling(unsigned detail);
 
+/* An event for a circuit in this state: mostly the next step of a call, outgoing or incoming; else any listed one. */
+struct particulars draw_next(unsigned state);
+
 /* Names the program and the function that prints the call under way; failing prints it, touching unlent memory too. Prints the seed
    of what is drawn: SEED in the environment, or a fixed one. */
 void harness_begin(const char *name, void (*describe)(void));

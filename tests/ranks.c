@@ -108,19 +108,13 @@ static struct {
     unsigned long events, full, releases[WAYS];
 } run;
 
-/* Mostly the next step of a call, outgoing or incoming; else any listed event. */
 static void draw_event(void)
 {
-    static const struct particulars next[STATES][2] = {
-        {{2, 1, 0}, {1, 0x11, 0}}, {{1, 0x14, 0}, {2, 2, 0}}, {{1, 0x16, 0}, {2, 2, 0}}, {{1, 0x36, 0}, {2, 2, 0}},
-        {{1, 0x56, 0}, {2, 2, 0}}, {{1, 0x17, 0}, {3, 4, 0}}, {{2, 3, 5}, {1, 0x46, 0}}, {{2, 4, 0}, {1, 0x46, 0}},
-        {{2, 4, 1}, {1, 0x46, 0}}, {{2, 5, 0}, {1, 0x46, 0}}, {{2, 6, 0}, {1, 0x46, 0}}, {{3, 4, 0}, {1, 0x46, 0}},
-        {{1, 0x17, 0}, {3, 4, 0}}};
     now.cic = draw(run.circuits);
     now.state = tup_record_state(run.table, now.cic);
     now.flags = tup_record_flags(run.table, now.cic);
     now.counter = tup_counter(run.table);
-    struct particulars event = chance(3) ? listed[draw(LISTED)] : next[now.state][draw(2)];
+    struct particulars event = draw_next(now.state);
     now.kind = event.kind, now.code = event.code, now.detail = event.detail;
 }
 
