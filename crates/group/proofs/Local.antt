@@ -1,7 +1,7 @@
 -- What an event answers and leaves at its circuit depends on what is held there alone, but for 13, which looks at the counter (docs/RULES.md, "Two
 -- circuits, either order").
 -- Assumes nothing.
-use mathlib.Core.Path.{_≡_, refl, sym, ap, _∙_, subst}
+use mathlib.Core.Path.{_≡_, refl, sym, _∙_, subst}
 use mathlib.Core.Bool.{Bool, true, false, not, cond, _&&_}
 use mathlib.Core.List.{List, [], _∷_, _++_}
 use Prim.Native.Nat.{ℕ, _+_, _<_, _≤_}

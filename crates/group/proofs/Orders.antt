@@ -3,7 +3,7 @@
 -- Assumes nothing.
 use mathlib.Core.Path.{_≡_, refl, sym, ap, _∙_, subst}
 use mathlib.Core.Bool.{Bool, true, false, cond}
-use mathlib.Core.List.{List, [], _∷_, map, List·Permᴰ, List·Permᴰ·nil, List·Permᴰ·cons, List·Permᴰ·swap, List·Permᴰ·trans, Permᴰ·map}
+use mathlib.Core.List.{List, [], _∷_, map, List·Permᴰ·nil, List·Permᴰ·cons, List·Permᴰ·swap, List·Permᴰ·trans, Permᴰ·map}
 use Prim.Native.Nat.{ℕ, _+_, _≤_}
 use native.Mathlib.Omega.{arith}
 use lib.Dec.{eqb}
@@ -11,7 +11,7 @@ use lib.ListN.{length}
 use borrow.Author.Tests.{eqb-true, eqb-false}
 use Rattle.words.specs.Words.{largest}
 use Rattle.layout.specs.Layout.{heldAt, counterIn}
-use Rattle.group.specs.Batches.{Handed, Answered, given, after, answered, eventsOf, OnceEach, No13, Rearranged}
+use Rattle.group.specs.Batches.{Handed, Answered, given, after, answered, OnceEach, No13, Rearranged}
 use Rattle.group.proofs.Laws.{keepsLength}
 use Rattle.group.proofs.Ranks.{counted, idled, once, spentAt}
 use Rattle.group.proofs.Local.{risesBelow, rises13}

@@ -272,11 +272,8 @@ module _ (table : List ℕ) (i n : ℕ) (h : i < recordsIn (length table)) (fits
 
 -- every other record keeps its octets
 module _ (table : List ℕ) (i j : ℕ) (other : j ≡ i → ⊥) (k : ℕ) (h : k < recordOctets) where
-  pub otherOctets : (r : Record) → getD (put table i r) (tableOctets j + k) 0 ≡ getD table (tableOctets j + k) 0
+  otherOctets : (r : Record) → getD (put table i r) (tableOctets j + k) 0 ≡ getD table (tableOctets j + k) 0
   otherOctets r = putOther table i r (tableOctets j + k) (λ e. other (omega arith)) (λ e. other (omega arith))
-
-  pub otherRanked : (n : ℕ) → getD (ranked table i n) (tableOctets j + k) 0 ≡ getD table (tableOctets j + k) 0
-  otherRanked n = rankedOther table i n (tableOctets j + k) (omega arith) (λ p q. other (omega arith))
 
 module _ (table : List ℕ) (i j : ℕ) (r : Record) (other : j ≡ i → ⊥) where
   pub otherState : stateAt (put table i r) j ≡ stateAt table j
