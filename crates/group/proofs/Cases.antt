@@ -20,10 +20,10 @@ use Rattle.step.specs.Refusals.{foundRules}
 use Rattle.step.specs.Frees.{freed, freesFound}
 use Rattle.step.proofs.Always.{freesListedFound}
 use Rattle.step.proofs.Refused.{refusesFound, atLeast3, thenLast}
-use Rattle.answers.specs.Answers.{Answer}
 use Rattle.layout.specs.Layout.{recordsIn, counterIn, stateAt, flagsAt, recordOf, recordAt, allowedAt}
-use Rattle.group.specs.Table.{Step, nowhere, refusedAt, stored, released, answering, outcomeAt, stepIn}
-use Rattle.group.specs.Way.{freeing, accepted, landed, onCircuit}
+use Rattle.group.specs.Refusals.{spent}
+use Rattle.group.specs.Table.{nowhere, refusedAt, stored, released, answering, outcomeAt, stepIn}
+use Rattle.group.specs.Way.{accepted, landed, onCircuit}
 
 module _ (c : Bool) (table : List ℕ) (cic : ℕ) (event : Found) where
   pub noFlags : 15 < flagsAt table cic → onCircuit c table cic event ≡ refusedAt 12 table cic
@@ -60,7 +60,7 @@ module _ (own far : ℕ) (table : List ℕ) (cic : ℕ) (event : Found) where
   m = firstOf (foundRules r event)
 
   abbrev last : Bool
-  last = freesFound c (stateAt table cic) event && leb largest (counterIn table)
+  last = spent own far table cic event
 
   -- the rules behind 12, on a valid record
   byStep : T (valid r) → o .refusal ≡ m → answering (firstOf (foundRules r event ++ (refuse 13 last ∷ []))) table cic o ≡ landed table cic o

@@ -10,8 +10,7 @@ use lib.ListN.{length}
 use borrow.Author.Tests.{le-leb, lt-leb, leb-true, leb-false, eqb-true, eqb-false, eq-eqb, ne-eqb}
 use Rattle.circuit.specs.declared.Outcome.{Outcome}
 use Rattle.circuit.specs.Records.{valid}
-use Rattle.circuit.specs.Rows as Rows
-use Rattle.circuit.proofs.Every.{left, right}
+use Rattle.circuit.proofs.Every.{left}
 use Rattle.codes.specs.declared.Found.{Found}
 use Rattle.words.specs.Words.{largest}
 use Rattle.answers.specs.Answers.{Answer, refusal, word, packed, Unpacked}

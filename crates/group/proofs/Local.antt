@@ -2,7 +2,7 @@
 -- circuits, either order").
 -- Assumes nothing.
 use mathlib.Core.Path.{_≡_, refl, sym, _∙_, subst}
-use mathlib.Core.Bool.{Bool, true, false, not, cond, _&&_}
+use mathlib.Core.Bool.{Bool, true, false, not, cond}
 use mathlib.Core.List.{List, [], _∷_, _++_}
 use Prim.Native.Nat.{ℕ, _+_, _<_, _≤_}
 use native.Mathlib.Omega.{arith}
@@ -13,7 +13,7 @@ use Rattle.circuit.specs.declared.Record.{Record}
 use Rattle.circuit.specs.declared.Outcome.{Outcome}
 use Rattle.circuit.specs.declared.Event.the-variants.{Arrives, Ordered, RunsOut}
 use Rattle.circuit.specs.Records.{valid}
-use Rattle.circuit.specs.Groups.{badGroup, controls}
+use Rattle.circuit.specs.Groups.{controls}
 use Rattle.circuit.specs.Refusals.{Rule, refuse, firstOf}
 use Rattle.circuit.proofs.Every.{left, right, both, isTrue}
 use Rattle.circuit.proofs.Refusals.{everyNumber, butForLast, lastHolds, onlyLast}
@@ -25,9 +25,9 @@ use Rattle.step.specs.Step.{stepFound}
 use Rattle.step.specs.Frees.{freesFound}
 use Rattle.step.proofs.Always.{freesListedFound}
 use Rattle.step.proofs.Refused.{refusesFound}
-use Rattle.layout.specs.Layout.{Held, holding, heldAt, recordsIn, counterIn, stateAt, recordOf, recordAt, allowed, put}
+use Rattle.layout.specs.Layout.{Held, holding, heldAt, recordsIn, counterIn, stateAt, recordOf, recordAt, put}
 use Rattle.layout.proofs.Laws.{putHeld, putLength, putKeepsCounter, rankedHeld, rankedCounter}
-use Rattle.group.specs.Refusals.{refusalIn}
+use Rattle.group.specs.Refusals.{circuitRules, spent, refusalIn}
 use Rattle.group.specs.Table.{outcomeAt, stepIn}
 use Rattle.group.proofs.Laws.{saying, byCases, answers, refusals}
 
@@ -72,31 +72,31 @@ module _ (own far : ℕ) (table : List ℕ) (cic : ℕ) (event : Found) where
 
 -- two tables of a group that hold the same at a circuit
 module _ (own far : ℕ) (t u : List ℕ) (cic : ℕ) (event : Found) (octets : length t ≡ length u) (same : heldAt t cic ≡ heldAt u cic) where
-  -- the rules before 13, the first rule that holds by what 13 asks, and what that is
-  abbrev before13 : (records : ℕ) → Held → List Rule
-  before13 n h = refuse 1 (badGroup own far n) ∷ refuse 2 (leb n cic) ∷ refuse 12 (not (allowed (h .state) (h .flags))) ∷ foundRules (recordOf (h .state) (h .flags)) event
+  -- the rules before 13, and the first that holds by what 13 asks
+  abbrev before13 : List ℕ → List Rule
+  before13 table = circuitRules own far (recordsIn (length table)) cic (heldAt table cic) event
 
-  abbrev refusedBy : List ℕ → (full : Bool) → ℕ
-  refusedBy table full = firstOf (before13 (recordsIn (length table)) (heldAt table cic) ++ (refuse 13 full ∷ []))
+  abbrev refusedBy : List ℕ → Bool → ℕ
+  refusedBy table b = firstOf (before13 table ++ (refuse 13 b ∷ []))
+
+  abbrev full : List ℕ → Bool
+  full table = spent own far table cic event
 
   abbrev frees : Held → Bool
   frees h = freesFound (controls own far cic) (h .state) event
 
-  abbrev spent : List ℕ → Bool
-  spent table = frees (heldAt table cic) && leb largest (counterIn table)
-
-  refuses : (table : List ℕ) → stepIn own far table cic event .answer .refusal ≡ refusedBy table (spent table)
+  refuses : (table : List ℕ) → stepIn own far table cic event .answer .refusal ≡ refusedBy table (full table)
   refuses table = refusals own far table cic event
 
   -- the first rule that holds is the same in both, whatever 13 asks
-  alike : (full : Bool) → refusedBy t full ≡ refusedBy u full
-  alike full = λ i. firstOf (before13 (recordsIn (octets i)) (same i) ++ (refuse 13 full ∷ []))
+  alike : (b : Bool) → refusedBy t b ≡ refusedBy u b
+  alike b = λ i. firstOf (circuitRules own far (recordsIn (octets i)) cic (same i) event ++ (refuse 13 b ∷ []))
 
   -- 13 at a counter is 13 at every higher one
   pub still13 : counterIn t ≤ counterIn u → stepIn own far t cic event .answer .refusal ≡ 13 → stepIn own far u cic event .answer .refusal ≡ 13
-  still13 h e = refuses u ∙ lastHolds (before13 (recordsIn (length u)) (heldAt u cic)) 13 (spent t) (spent u) higher (sym (alike (spent t)) ∙ sym (refuses t) ∙ e)
+  still13 h e = refuses u ∙ lastHolds (before13 u) 13 (full t) (full u) higher (sym (alike (full t)) ∙ sym (refuses t) ∙ e)
     where
-      higher : T (spent t) → T (spent u)
+      higher : T (full t) → T (full u)
       higher s =
           both (frees (heldAt u cic)) (leb largest (counterIn u))
           (subst (λ (h : Held). T (frees h)) same (left (frees (heldAt t cic)) (leb largest (counterIn t)) s))
@@ -106,7 +106,7 @@ module _ (own far : ℕ) (t u : List ℕ) (cic : ℕ) (event : Found) (octets : 
   pub rises13 : stepIn own far u cic event .answer .refusal ≡ 13 → (stepIn own far t cic event .answer .refusal ≡ 13 → ⊥)
       → counterIn (stepIn own far t cic event .table) ≡ counterIn t + 1
   rises13 e not13 =
-      freesRises own far t cic event (go (spent t) (refuses t ∙ alike (spent t) ∙ k .1 (spent t)))
+      freesRises own far t cic event (go (full t) (refuses t ∙ alike (full t) ∙ k .1 (full t)))
       (isTrue (frees (heldAt t cic)) (subst (λ (h : Held). T (frees h)) (sym same) (left (frees (heldAt u cic)) (leb largest (counterIn u)) (k .0))))
     where
       -- no rule before 13 has that number
@@ -116,10 +116,10 @@ module _ (own far : ℕ) (t u : List ℕ) (cic : ℕ) (event : Found) (octets : 
       earlier (Is (RunsOut t)) = tt
       earlier Missing = tt
 
-      k : T (spent u) × ((full : Bool) → refusedBy u full ≡ cond full 13 0)
-      k = onlyLast (before13 (recordsIn (length u)) (heldAt u cic)) 12 (spent u) (earlier event) (sym (refuses u) ∙ e)
+      k : T (full u) × ((b : Bool) → refusedBy u b ≡ cond b 13 0)
+      k = onlyLast (before13 u) 12 (full u) (earlier event) (sym (refuses u) ∙ e)
 
-      go : (full : Bool) → stepIn own far t cic event .answer .refusal ≡ cond full 13 0 → stepIn own far t cic event .answer .refusal ≡ 0
+      go : (b : Bool) → stepIn own far t cic event .answer .refusal ≡ cond b 13 0 → stepIn own far t cic event .answer .refusal ≡ 0
       go true q = absurd (not13 q)
       go false q = q
 
@@ -127,8 +127,8 @@ module _ (own far : ℕ) (t u : List ℕ) (cic : ℕ) (event : Found) (octets : 
   module _ (p : stepIn own far t cic event .answer .refusal ≡ 13 → ⊥) (q : stepIn own far u cic event .answer .refusal ≡ 13 → ⊥) where
     sameRefusal : refusalIn own far t cic event ≡ refusalIn own far u cic event
     sameRefusal =
-        alike (spent t)
-        ∙ butForLast (before13 (recordsIn (length u)) (heldAt u cic)) 13 (spent t) (spent u) (λ e. p (refuses t ∙ alike (spent t) ∙ e)) (λ e. q (refuses u ∙ e))
+        alike (full t)
+        ∙ butForLast (before13 u) 13 (full t) (full u) (λ e. p (refuses t ∙ alike (full t) ∙ e)) (λ e. q (refuses u ∙ e))
 
     pub sameAnswer : stepIn own far t cic event .answer ≡ stepIn own far u cic event .answer
     sameAnswer =

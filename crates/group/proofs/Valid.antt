@@ -1,7 +1,7 @@
 -- A table of valid records stays one, so a group that starts idle never answers 12.
 -- Assumes nothing.
 use mathlib.Core.Path.{_≡_, refl, sym, _∙_, subst}
-use mathlib.Core.Bool.{Bool, true, false, not, cond, _&&_}
+use mathlib.Core.Bool.{Bool, true, false, not, cond}
 use mathlib.Core.List.{List, [], _∷_, _++_}
 use Prim.Native.Nat.{ℕ, _<_, _≤_}
 use native.Mathlib.Omega.{arith}
@@ -24,6 +24,7 @@ use Rattle.step.specs.Frees.{freesFound}
 use Rattle.words.specs.Words.{largest}
 use Rattle.layout.specs.Layout.{recordsIn, counterIn, stateAt, flagsAt, recordOf, recordAt, allowedAt, put, ranked, idle}
 use Rattle.layout.proofs.Laws.{idleState, idleFlags, flagsLow, putLength, putFlags, putRecord, otherFlags, otherRecord, rankedLength, rankedFlags, rankedRecord}
+use Rattle.group.specs.Refusals.{spent}
 use Rattle.group.specs.Table.{outcomeAt, stepIn}
 use Rattle.group.proofs.Laws.{byCases, refusals}
 use Rattle.group.specs.Runs.{Follows, Follows.start, Follows.next}
@@ -86,7 +87,7 @@ module _ (own far : ℕ) (table : List ℕ) (cic : ℕ) (event : Found) where
       go (badGroup own far (recordsIn (length table))) (leb (recordsIn (length table)) cic) refl (allowedAt table cic) refl _ (behind (recordAt table cic) event last n l) (sym (refusals own far table cic event) ∙ e)
     where
       last : Bool
-      last = freesFound (controls own far cic) (stateAt table cic) event && leb largest (counterIn table)
+      last = spent own far table cic event
 
       Told : Type 0
       Told = (n ≡ 12 → (cic < recordsIn (length table)) × (allowedAt table cic ≡ false)) × (n ≡ 13 → largest ≤ counterIn table)

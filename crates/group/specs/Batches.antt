@@ -53,6 +53,6 @@ OnceEach xs = (i : ℕ) → length (eventsOf i xs) ≤ 1
 abbrev pub No13 : List Answered → Type 0
 No13 told = only (λ (a : Answered). a .answer .refusal) 13 told ≡ []
 
--- the same in any other order
+-- the same ones in any order
 abbrev pub Rearranged : {A : Type 0} → List A → List A → Type 0
 Rearranged xs ys = List·Permᴰ xs ys

@@ -1,6 +1,6 @@
 -- When an event on a circuit of a table is refused (docs/RULES.md, "Refusals"), in the order 1, 2, 12, 3, then 5, 4 or 6, and last 13.
 -- Assumes nothing.
-use mathlib.Core.Bool.{not, _&&_}
+use mathlib.Core.Bool.{Bool, not, _&&_}
 use mathlib.Core.List.{List, [], _∷_, _++_}
 use Prim.Native.Nat.{ℕ}
 use lib.Dec.{leb}
@@ -11,15 +11,24 @@ use Rattle.codes.specs.declared.Found.{Found}
 use Rattle.words.specs.Words.{largest}
 use Rattle.step.specs.Refusals.{foundRules}
 use Rattle.step.specs.Frees.{freesFound}
-use Rattle.layout.specs.Layout.{recordsIn, counterIn, stateAt, recordAt, allowedAt}
+use Rattle.layout.specs.Layout.{Held, recordsIn, counterIn, stateAt, heldAt, recordOf, allowed}
+
+-- those that go by the group and by what is held of the circuit
+abbrev pub circuitRules : (own far records cic : ℕ) → Held → Found → List Rule
+circuitRules own far records cic h event =
+    refuse 1 (badGroup own far records)
+    ∷ refuse 2 (leb records cic)
+    ∷ refuse 12 (not (allowed (h .state) (h .flags)))
+    ∷ foundRules (recordOf (h .state) (h .flags)) event
+
+-- 13: the event frees the circuit, and the counter is at its largest value
+abbrev pub spent : (own far : ℕ) → List ℕ → (cic : ℕ) → Found → Bool
+spent own far table cic event = freesFound (controls own far cic) (stateAt table cic) event && leb largest (counterIn table)
 
 abbrev pub rulesIn : (own far : ℕ) → List ℕ → (cic : ℕ) → Found → List Rule
 rulesIn own far table cic event =
-    refuse 1 (badGroup own far (recordsIn (length table)))
-    ∷ refuse 2 (leb (recordsIn (length table)) cic)
-    ∷ refuse 12 (not (allowedAt table cic))
-    ∷ (foundRules (recordAt table cic) event
-    ++ (refuse 13 (freesFound (controls own far cic) (stateAt table cic) event && leb largest (counterIn table)) ∷ []))
+    circuitRules own far (recordsIn (length table)) cic (heldAt table cic) event
+    ++ (refuse 13 (spent own far table cic event) ∷ [])
 
 -- 0: it is accepted
 abbrev pub refusalIn : (own far : ℕ) → List ℕ → (cic : ℕ) → Found → ℕ
