@@ -1,7 +1,7 @@
 /* One exchange of a small host: all that a host does around tup.h for its group of circuits. It lends the table, sends what a step
    names and takes what arrives, runs the timers on a wheel of seconds, and restarts circuits when that is safe. It keeps the rules
-   of docs/HOST.md, "Quiet circuits", "Restarts" and "Before a circuit is seized"; what is on the link, and what is printed, is for
-   its user to say. */
+   of docs/HOST.md, "Timers, and quiet circuits", "Restarts" and "Before a circuit is seized"; what is on the link, and what is
+   printed, is for its user to say. */
 #ifndef EXCHANGE_H
 #define EXCHANGE_H
 

@@ -10,6 +10,7 @@ use lib.ListN.{length}
 use borrow.Author.Tests.{eqb-true, eqb-false, eq-eqb, ne-eqb}
 use Rattle.layout.specs.Layout.{heldAt}
 use Rattle.group.specs.Batches.{Handed, Answered, given, after, answered, only, eventsOf, answersOf, OnceEach, No13, Rearranged}
+use Rattle.group.specs.Runs.{Follows, Follows.next}
 use Rattle.group.proofs.Meets.{Meets, itself, elsewhere, answersAs, there}
 
 abbrev cicOf : Handed → ℕ
@@ -163,3 +164,9 @@ sameEvents i List·Permᴰ·nil o = refl
 sameEvents i (List·Permᴰ·cons e r) o = let k = sameEvents i r (o .1) in λ j. cond (eqb (e j .cic) i) (e j ∷ k j) (k j)
 sameEvents i (List·Permᴰ·swap {a} {b} {l = l} e f) o = inTurn i a b l (o .0 .0) ∙ (λ j. eventsOf i (f j ∷ e j ∷ l))
 sameEvents i (List·Permᴰ·trans p q) o = sameEvents i p o ∙ sameEvents i q (apartStill p o)
+
+-- a batch is a run of events
+pub aRun : {own far : ℕ} {first table : List ℕ} → Follows own far first table → (xs : List Handed) → Follows own far first (after own far table xs)
+unfolding after
+aRun f [] = f
+aRun f (x ∷ xs) = aRun (Follows.next f (x .cic) (x .event)) xs

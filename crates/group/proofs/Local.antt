@@ -4,15 +4,13 @@
 use mathlib.Core.Path.{_≡_, refl, sym, _∙_, subst}
 use mathlib.Core.Bool.{Bool, true, false, not, cond}
 use mathlib.Core.List.{List, [], _∷_, _++_}
-use Prim.Native.Nat.{ℕ, _+_, _<_, _≤_}
+use Prim.Native.Nat.{ℕ, _+_, _≤_}
 use native.Mathlib.Omega.{arith}
 use lib.Dec.{T, eqb, leb, le→leb, leb→le}
 use lib.ListN.{length}
 use borrow.Author.Tests.{ne-eqb}
 use Rattle.circuit.specs.declared.Record.{Record}
-use Rattle.circuit.specs.declared.Outcome.{Outcome}
 use Rattle.circuit.specs.declared.Event.the-variants.{Arrives, Ordered, RunsOut}
-use Rattle.circuit.specs.Records.{valid}
 use Rattle.circuit.specs.Groups.{controls}
 use Rattle.circuit.specs.Refusals.{Rule, refuse, firstOf}
 use Rattle.circuit.proofs.Every.{left, right, both, isTrue}
@@ -23,13 +21,12 @@ use Rattle.words.specs.Words.{largest}
 use Rattle.step.specs.Refusals.{foundRules}
 use Rattle.step.specs.Step.{stepFound}
 use Rattle.step.specs.Frees.{freesFound}
-use Rattle.step.proofs.Always.{freesListedFound}
-use Rattle.step.proofs.Refused.{refusesFound}
-use Rattle.layout.specs.Layout.{Held, holding, heldAt, recordsIn, counterIn, stateAt, recordOf, recordAt, put}
-use Rattle.layout.proofs.Laws.{putHeld, putLength, putKeepsCounter, rankedHeld, rankedCounter}
+use Rattle.layout.specs.Layout.{Held, holding, heldAt, recordsIn, counterIn, recordOf, recordAt, put}
+use Rattle.layout.proofs.Laws.{putHeld, rankedHeld}
 use Rattle.group.specs.Refusals.{circuitRules, spent, refusalIn}
 use Rattle.group.specs.Table.{outcomeAt, stepIn}
 use Rattle.group.proofs.Laws.{saying, byCases, answers, refusals}
+use Rattle.group.proofs.Ranks.{freesRises}
 
 -- a circuit's event leaves there what its answer shows, and what was there if it is refused
 pub leaves : (own far : ℕ) (table : List ℕ) (cic : ℕ) (event : Found)
@@ -42,33 +39,6 @@ leaves own far table cic event =
   where
     r : Record
     r = outcomeAt own far table cic event .after
-
--- the counter rises where a circuit is freed, and only from below its largest value
-module _ (own far : ℕ) (table : List ℕ) (cic : ℕ) (event : Found) where
-  abbrev o : Outcome
-  o = outcomeAt own far table cic event
-
-  pub risesBelow : counterIn table < counterIn (stepIn own far table cic event .table) → counterIn table < largest
-  risesBelow =
-      byCases own far table cic event (λ s. counterIn table < counterIn (s .table) → counterIn table < largest)
-      (λ h. absurd (omega arith)) (λ h. absurd (omega arith)) (λ n z h. absurd (omega arith))
-      (λ h l a f k. absurd (omega (arith, k, putKeepsCounter table cic (o .after)))) (λ h l a f k z. k)
-
-  freesRises : stepIn own far table cic event .answer .refusal ≡ 0 → freesFound (controls own far cic) (stateAt table cic) event ≡ true
-      → counterIn (stepIn own far table cic event .table) ≡ counterIn table + 1
-  unfolding recordOf
-  freesRises =
-      byCases own far table cic event (λ s. s .answer .refusal ≡ 0 → freesFound (controls own far cic) (stateAt table cic) event ≡ true → counterIn (s .table) ≡ counterIn table + 1)
-      (λ e. absurd (omega arith)) (λ e. absurd (omega arith)) (λ n z e. absurd (z e))
-      (λ h l a f e q. absurd (subst T (sym q ∙ sym (freesListedFound (controls own far cic) (recordAt table cic) event (isValid a)) ∙ f) tt))
-      (λ h l a f k e q. rankedCounter (put table cic (o .after)) cic (counterIn table + 1) (rw (putLength table cic (o .after)) h) (omega arith))
-    where
-      isValid : o .refusal ≡ 0 → T (valid (recordAt table cic))
-      isValid a = go (valid (recordAt table cic)) (sym (refusesFound (controls own far cic) (recordAt table cic) event) ∙ a)
-        where
-          go : (b : Bool) → cond (not b) 12 (firstOf (foundRules (recordAt table cic) event)) ≡ 0 → T b
-          go true e = tt
-          go false e = absurd (omega arith)
 
 -- two tables of a group that hold the same at a circuit
 module _ (own far : ℕ) (t u : List ℕ) (cic : ℕ) (event : Found) (octets : length t ≡ length u) (same : heldAt t cic ≡ heldAt u cic) where

@@ -13,8 +13,8 @@ use Rattle.words.specs.Words.{largest}
 use Rattle.layout.specs.Layout.{heldAt, counterIn}
 use Rattle.group.specs.Batches.{Handed, Answered, given, after, answered, OnceEach, No13, Rearranged}
 use Rattle.group.proofs.Laws.{keepsLength}
-use Rattle.group.proofs.Ranks.{counted, idled, once, spentAt}
-use Rattle.group.proofs.Local.{risesBelow, rises13}
+use Rattle.group.proofs.Ranks.{counted, idled, risesBelow, once, spentAt}
+use Rattle.group.proofs.Local.{rises13}
 use Rattle.group.proofs.Meets.{Meets, itself, untouched, elsewhere, nor13, answersAs, leavesAs, freesAs, there}
 use Rattle.group.proofs.Batches.{Apart, Never13, never13, no13, apart, alone, byThemselves, asIfAlone, apartStill, sameEvents}
 

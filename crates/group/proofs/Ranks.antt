@@ -1,20 +1,27 @@
 -- Release ranks (docs/RULES.md, under that title): what every event does to the counter and the ranks, and that ranks tell which was freed later.
 -- Assumes nothing.
-use mathlib.Core.Path.{_≡_, refl, sym, _∙_}
+use mathlib.Core.Path.{_≡_, refl, sym, _∙_, subst}
 use mathlib.Core.Bool.{Bool, true, false, not, cond, _&&_}
 use mathlib.Core.List.{List}
 use Prim.Native.Nat.{ℕ, _+_, _<_, _≤_}
 use native.Mathlib.Omega.{arith}
-use lib.Dec.{eqb}
+use lib.Dec.{T, eqb}
 use lib.ListN.{length}
 use borrow.Author.Tests.{eqb-true, eqb-false, eq-eqb}
 use Rattle.circuit.specs.declared.Record.{Record}
+use Rattle.circuit.specs.declared.Outcome.{Outcome}
+use Rattle.circuit.specs.Records.{valid}
+use Rattle.circuit.specs.Groups.{controls}
+use Rattle.circuit.specs.Refusals.{firstOf}
 use Rattle.codes.specs.declared.Found.{Found}
-use Rattle.step.specs.Refusals.{refusal}
+use Rattle.step.specs.Refusals.{foundRules}
+use Rattle.step.specs.Frees.{freesFound}
+use Rattle.step.proofs.Always.{freesListedFound}
+use Rattle.step.proofs.Refused.{refusesFound}
 use Rattle.words.specs.Words.{largest}
-use Rattle.layout.specs.Layout.{recordsIn, counterIn, stateAt, rankAt, put, ranked, idle}
+use Rattle.layout.specs.Layout.{recordsIn, counterIn, stateAt, rankAt, recordOf, recordAt, put, ranked, idle}
 use Rattle.layout.proofs.Laws.{idleRank, idleCounter, putState, putLength, putKeepsCounter, putKeepsRank, rankedState, rankedCounter, rankedRank, otherRank}
-use Rattle.group.specs.Table.{stepIn}
+use Rattle.group.specs.Table.{outcomeAt, stepIn}
 use Rattle.group.proofs.Laws.{byCases, keepsLength}
 use Rattle.group.specs.Runs.{Follows, Follows.start, Follows.next, events}
 use Rattle.group.proofs.Valid.{high}
@@ -70,6 +77,33 @@ counted own far table cic event =
     (untouched table cic) (untouched table cic) (λ n h. untouched table cic)
     (λ h l a f. storedCounts table cic _ h f)
     (λ h l a f k. releasedCounts table cic _ h f k)
+
+-- it rises where an event that frees the circuit is accepted, and only from below its largest value
+module _ (own far : ℕ) (table : List ℕ) (cic : ℕ) (event : Found) where
+  abbrev o : Outcome
+  o = outcomeAt own far table cic event
+
+  pub risesBelow : counterIn table < counterIn (stepIn own far table cic event .table) → counterIn table < largest
+  risesBelow =
+      byCases own far table cic event (λ s. counterIn table < counterIn (s .table) → counterIn table < largest)
+      (λ h. absurd (omega arith)) (λ h. absurd (omega arith)) (λ n z h. absurd (omega arith))
+      (λ h l a f k. absurd (omega (arith, k, putKeepsCounter table cic (o .after)))) (λ h l a f k z. k)
+
+  pub freesRises : stepIn own far table cic event .answer .refusal ≡ 0 → freesFound (controls own far cic) (stateAt table cic) event ≡ true
+      → counterIn (stepIn own far table cic event .table) ≡ counterIn table + 1
+  unfolding recordOf
+  freesRises =
+      byCases own far table cic event (λ s. s .answer .refusal ≡ 0 → freesFound (controls own far cic) (stateAt table cic) event ≡ true → counterIn (s .table) ≡ counterIn table + 1)
+      (λ e. absurd (omega arith)) (λ e. absurd (omega arith)) (λ n z e. absurd (z e))
+      (λ h l a f e q. absurd (subst T (sym q ∙ sym (freesListedFound (controls own far cic) (recordAt table cic) event (isValid a)) ∙ f) tt))
+      (λ h l a f k e q. rankedCounter (put table cic (o .after)) cic (counterIn table + 1) (rw (putLength table cic (o .after)) h) (omega arith))
+    where
+      isValid : o .refusal ≡ 0 → T (valid (recordAt table cic))
+      isValid a = go (valid (recordAt table cic)) (sym (refusesFound (controls own far cic) (recordAt table cic) event) ∙ a)
+        where
+          go : (b : Bool) → cond (not b) 12 (firstOf (foundRules (recordAt table cic) event)) ≡ 0 → T b
+          go true e = tt
+          go false e = absurd (omega arith)
 
 -- the counter never falls
 rises : (b : Bool) (n m : ℕ) → m ≡ cond b (n + 1) n → n ≤ m

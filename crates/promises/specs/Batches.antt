@@ -20,6 +20,7 @@ use Rattle.words.specs.Words.{largest, number, put}
 use Rattle.step.specs.Step.{step, stepFound}
 use Rattle.layout.specs.Layout.{heldAt, recordsIn, counterIn, stateAt, flagsAt, rankAt, recordOf, flagsOf, putOctets, putRank, putCounter, idle}
 use Rattle.group.specs.Table.{stepIn}
+use Rattle.group.specs.Runs.{Follows, Follows.start}
 use Rattle.group.specs.Batches.{Handed, Answered, after, answered, only, OnceEach, No13, Rearranged}
 use Rattle.group.proofs.Local as local
 use Rattle.group.proofs.Batches as batches
@@ -70,6 +71,10 @@ pub answeredInTurn : (own far : ℕ) (table : List ℕ) (x : Handed) (xs : List 
     × (answered own far table (x ∷ xs) ≡ record { to = x; answer = stepIn own far table (x .cic) (x .event) .answer } ∷ answered own far (stepIn own far table (x .cic) (x .event) .table) xs)
 unfolding answered
 answeredInTurn own far table x xs = (refl, refl)
+
+-- so it is a run of events, of which all holds that is promised of these
+pub aRun : (own far : ℕ) (table : List ℕ) (xs : List Handed) → Follows own far table (after own far table xs)
+aRun own far table xs = batches.aRun Follows.start xs
 
 -- those of a list that have a number
 pub onlyThese : {A : Type 0} (numberOf : A → ℕ) (n : ℕ) (x : A) (xs : List A)
