@@ -17,7 +17,7 @@ use Rattle.codes.specs.declared.Found.{Found}
 use Rattle.step.proofs.Refused.{keepsFound}
 use Rattle.step.specs.Frees.{freed}
 use Rattle.words.specs.Words.{largest}
-use Rattle.layout.specs.Layout.{Held, recordsIn, counterIn, stateAt, flagsAt, rankAt, heldAt, recordOf, recordAt, put}
+use Rattle.layout.specs.Layout.{groupIn, Held, recordsIn, counterIn, stateAt, flagsAt, rankAt, heldAt, recordOf, recordAt, put}
 use Rattle.layout.proofs.Laws.{recordBack, putLength, putRecord, putKeepsRank, otherHeld, otherRank, rankedLength, rankedHeld, rankedRecord}
 use Rattle.answers.specs.Answers.{Answer, refusal}
 use Rattle.group.specs.Table.{Step, nowhere, refusedAt, taken, stored, released, taking, answering, outcomeAt, stepIn}
@@ -128,6 +128,9 @@ module _ (own far : ℕ) (table : List ℕ) (cic : ℕ) (event : Found) where
   keepsLength =
       byCases (λ s. length (s .table) ≡ length table)
       refl refl (λ n h. refl) (λ h l a f. putLength table cic _) (λ h l a f k. rankedLength (put table cic _) cic _ ∙ putLength table cic _)
+
+  pub keepsGroup : groupIn (stepIn own far table cic event .table) ≡ groupIn table
+  keepsGroup = λ i. record { records = recordsIn (keepsLength i) }
 
   -- of a circuit of the group whose flags are some, but for 13: the step on the table is one circuit's step on its record
   pub isStep : badGroup own far (recordsIn (length table)) ≡ false

@@ -7,7 +7,6 @@ use mathlib.Core.List.{List, [], _∷_, _++_}
 use Prim.Native.Nat.{ℕ, _+_, _≤_}
 use native.Mathlib.Omega.{arith}
 use lib.Dec.{T, eqb, leb, le→leb, leb→le}
-use lib.ListN.{length}
 use borrow.Author.Tests.{ne-eqb}
 use Rattle.circuit.specs.declared.Record.{Record}
 use Rattle.circuit.specs.declared.Event.the-variants.{Arrives, Ordered, RunsOut}
@@ -21,7 +20,7 @@ use Rattle.words.specs.Words.{largest}
 use Rattle.step.specs.Refusals.{foundRules}
 use Rattle.step.specs.Step.{stepFound}
 use Rattle.step.specs.Frees.{freesFound}
-use Rattle.layout.specs.Layout.{Held, holding, heldAt, recordsIn, counterIn, recordOf, recordAt, put}
+use Rattle.layout.specs.Layout.{groupIn, Held, holding, heldAt, counterIn, recordOf, recordAt, put}
 use Rattle.layout.proofs.Laws.{putHeld, rankedHeld}
 use Rattle.group.specs.Refusals.{circuitRules, spent, refusalIn}
 use Rattle.group.specs.Table.{outcomeAt, stepIn}
@@ -41,10 +40,10 @@ leaves own far table cic event =
     r = outcomeAt own far table cic event .after
 
 -- two tables of a group that hold the same at a circuit
-module _ (own far : ℕ) (t u : List ℕ) (cic : ℕ) (event : Found) (octets : length t ≡ length u) (same : heldAt t cic ≡ heldAt u cic) where
+module _ (own far : ℕ) (t u : List ℕ) (cic : ℕ) (event : Found) (group : groupIn t ≡ groupIn u) (same : heldAt t cic ≡ heldAt u cic) where
   -- the rules before 13, and the first that holds by what 13 asks
   abbrev before13 : List ℕ → List Rule
-  before13 table = circuitRules own far (recordsIn (length table)) cic (heldAt table cic) event
+  before13 table = circuitRules own far (groupIn table) cic (heldAt table cic) event
 
   abbrev refusedBy : List ℕ → Bool → ℕ
   refusedBy table b = firstOf (before13 table ++ (refuse 13 b ∷ []))
@@ -60,7 +59,7 @@ module _ (own far : ℕ) (t u : List ℕ) (cic : ℕ) (event : Found) (octets : 
 
   -- the first rule that holds is the same in both, whatever 13 asks
   alike : (b : Bool) → refusedBy t b ≡ refusedBy u b
-  alike b = λ i. firstOf (circuitRules own far (recordsIn (octets i)) cic (same i) event ++ (refuse 13 b ∷ []))
+  alike b = λ i. firstOf (circuitRules own far (group i) cic (same i) event ++ (refuse 13 b ∷ []))
 
   -- 13 at a counter is 13 at every higher one
   pub still13 : counterIn t ≤ counterIn u → stepIn own far t cic event .answer .refusal ≡ 13 → stepIn own far u cic event .answer .refusal ≡ 13

@@ -10,9 +10,9 @@ use lib.Dec.{eqb}
 use lib.ListN.{length}
 use borrow.Author.Tests.{eqb-true, eqb-false}
 use Rattle.words.specs.Words.{largest}
-use Rattle.layout.specs.Layout.{heldAt, counterIn}
+use Rattle.layout.specs.Layout.{groupIn, heldAt, counterIn}
 use Rattle.group.specs.Batches.{Handed, Answered, given, after, answered, OnceEach, No13, Rearranged}
-use Rattle.group.proofs.Laws.{keepsLength}
+use Rattle.group.proofs.Laws.{keepsGroup}
 use Rattle.group.proofs.Ranks.{counted, idled, risesBelow, once, spentAt}
 use Rattle.group.proofs.Local.{rises13}
 use Rattle.group.proofs.Meets.{Meets, itself, untouched, elsewhere, nor13, answersAs, leavesAs, freesAs, there}
@@ -20,15 +20,15 @@ use Rattle.group.proofs.Batches.{Apart, Never13, never13, no13, apart, 
 
 -- tables that are the same but for their ranks
 record Even (t u : List ℕ) : Type 0 where
-  octets : length t ≡ length u
+  group : groupIn t ≡ groupIn u
   held : (i : ℕ) → heldAt t i ≡ heldAt u i
   counter : counterIn t ≡ counterIn u
 
 turned : {t u : List ℕ} → Even t u → Even u t
-turned e = record { octets = sym (e .octets); held = λ i. sym (e .held i); counter = sym (e .counter) }
+turned e = record { group = sym (e .group); held = λ i. sym (e .held i); counter = sym (e .counter) }
 
 meeting : {t u : List ℕ} → Even t u → (i : ℕ) → Meets t u i
-meeting e i = record { octets = e .octets; held = e .held i; counter = omega (arith, e .counter) }
+meeting e i = record { group = e .group; held = e .held i; counter = omega (arith, e .counter) }
 
 -- two counters that rise for the same two releases
 counts : (a b : Bool) (c cx cy cxy cyx : ℕ) → cx ≡ cond a (c + 1) c → cy ≡ cond b (c + 1) c → cxy ≡ cond b (cx + 1) cx → cyx ≡ cond a (cy + 1) cy → cxy ≡ cyx
@@ -41,7 +41,7 @@ module _ (own far : ℕ) where
   -- such tables stay so by the same events, and if none of these is refused 13 on the one, none is on the other
   module _ {t u : List ℕ} (e : Even t u) (x : Handed) (not13 : given own far u x .answer .refusal ≡ 13 → ⊥) where
     evenly : Even (given own far t x .table) (given own far u x .table)
-    evenly = record { octets = m .octets; held = λ i. held i (eqb i (x .cic)) refl; counter = counter }
+    evenly = record { group = m .group; held = λ i. held i (eqb i (x .cic)) refl; counter = counter }
       where
         m : Meets (given own far t x .table) (given own far u x .table) (x .cic)
         m = there own far x (meeting e (x .cic)) not13
@@ -90,7 +90,7 @@ module _ (own far : ℕ) where
     secondToo e = go (idled tx txy (y .cic)) (rw (freesAs own far y yMeets second) at (counted own far t (y .cic) (y .event) .counter)) (counted own far tx (y .cic) (y .event) .counter)
       where
         xRises : counterIn tx ≡ counterIn t + 1
-        xRises = rises13 own far t ty (x .cic) (x .event) (xMeets .octets) (xMeets .held) e first
+        xRises = rises13 own far t ty (x .cic) (x .event) (xMeets .group) (xMeets .held) e first
 
         go : (b : Bool) → counterIn ty ≡ cond b (counterIn t + 1) (counterIn t) → counterIn txy ≡ cond b (counterIn tx + 1) (counterIn tx) → ⊥
         go true p q = omega (arith, p, xRises, spentAt own far ty (x .cic) (x .event) e, risesBelow own far tx (y .cic) (y .event) (omega arith))
@@ -122,7 +122,7 @@ module _ (own far : ℕ) where
 
     both : Even txy tyx
     both = record {
-      octets = keepsLength own far tx (y .cic) (y .event) ∙ keepsLength own far t (x .cic) (x .event) ∙ sym (keepsLength own far ty (x .cic) (x .event) ∙ keepsLength own far t (y .cic) (y .event));
+      group = keepsGroup own far tx (y .cic) (y .event) ∙ keepsGroup own far t (x .cic) (x .event) ∙ sym (keepsGroup own far ty (x .cic) (x .event) ∙ keepsGroup own far t (y .cic) (y .event));
       held = leftHeld;
       counter =
           counts (idled t tx (x .cic)) (idled t ty (y .cic)) (counterIn t) (counterIn tx) (counterIn ty) (counterIn txy) (counterIn tyx)

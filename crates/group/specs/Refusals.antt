@@ -4,20 +4,19 @@ use mathlib.Core.Bool.{Bool, not, _&&_}
 use mathlib.Core.List.{List, [], _∷_, _++_}
 use Prim.Native.Nat.{ℕ}
 use lib.Dec.{leb}
-use lib.ListN.{length}
 use Rattle.circuit.specs.Groups.{badGroup, controls}
 use Rattle.circuit.specs.Refusals.{Rule, refuse, firstOf}
 use Rattle.codes.specs.declared.Found.{Found}
 use Rattle.words.specs.Words.{largest}
 use Rattle.step.specs.Refusals.{foundRules}
 use Rattle.step.specs.Frees.{freesFound}
-use Rattle.layout.specs.Layout.{Held, recordsIn, counterIn, stateAt, heldAt, recordOf, allowed}
+use Rattle.layout.specs.Layout.{Group, groupIn, Held, heldAt, counterIn, stateAt, recordOf, allowed}
 
 -- those that go by the group and by what is held of the circuit
-abbrev pub circuitRules : (own far records cic : ℕ) → Held → Found → List Rule
-circuitRules own far records cic h event =
-    refuse 1 (badGroup own far records)
-    ∷ refuse 2 (leb records cic)
+abbrev pub circuitRules : (own far : ℕ) → Group → (cic : ℕ) → Held → Found → List Rule
+circuitRules own far g cic h event =
+    refuse 1 (badGroup own far (g .records))
+    ∷ refuse 2 (leb (g .records) cic)
     ∷ refuse 12 (not (allowed (h .state) (h .flags)))
     ∷ foundRules (recordOf (h .state) (h .flags)) event
 
@@ -27,7 +26,7 @@ spent own far table cic event = freesFound (controls own far cic) (stateAt table
 
 abbrev pub rulesIn : (own far : ℕ) → List ℕ → (cic : ℕ) → Found → List Rule
 rulesIn own far table cic event =
-    circuitRules own far (recordsIn (length table)) cic (heldAt table cic) event
+    circuitRules own far (groupIn table) cic (heldAt table cic) event
     ++ (refuse 13 (spent own far table cic event) ∷ [])
 
 -- 0: it is accepted

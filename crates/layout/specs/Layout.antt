@@ -27,6 +27,13 @@ tableOctets circuits = counterOctets + recordOctets * circuits
 unfoldable pub recordsIn : ℕ → ℕ
 recordsIn octets = cond (eqb ((octets - counterOctets) % recordOctets) 0) ((octets - counterOctets) / recordOctets) 0
 
+-- what a table says of its group: how many circuits it has
+pub record Group : Type 0 where
+  pub records : ℕ
+
+abbrev pub groupIn : List ℕ → Group
+groupIn table = record { records = recordsIn (length table) }
+
 unfoldable pub counterIn : List ℕ → ℕ
 counterIn table = word table 0
 
@@ -57,7 +64,7 @@ allowed s f = leb f 15 && valid (recordOf s f)
 abbrev pub allowedAt : List ℕ → ℕ → Bool
 allowedAt table i = allowed (stateAt table i) (flagsAt table i)
 
--- what is held of circuit i apart from its rank: all that an event there goes by
+-- what is held of circuit i apart from its rank
 pub record Held : Type 0 where
   pub state : ℕ
   pub flags : ℕ

@@ -18,7 +18,7 @@ use Rattle.codes.specs.declared.Found.{Found}
 use Rattle.codes.specs.declared.Found.the-variants.{Is}
 use Rattle.words.specs.Words.{largest, number, put}
 use Rattle.step.specs.Step.{step, stepFound}
-use Rattle.layout.specs.Layout.{heldAt, recordsIn, counterIn, stateAt, flagsAt, rankAt, recordOf, flagsOf, putOctets, putRank, putCounter, idle}
+use Rattle.layout.specs.Layout.{groupIn, heldAt, recordsIn, counterIn, stateAt, flagsAt, rankAt, recordOf, flagsOf, putOctets, putRank, putCounter, idle}
 use Rattle.group.specs.Table.{stepIn}
 use Rattle.group.specs.Runs.{Follows, Follows.start}
 use Rattle.group.specs.Batches.{Handed, Answered, after, answered, only, OnceEach, No13, Rearranged}
@@ -30,22 +30,26 @@ use Rattle.select.specs.Selection.{choice, selectIn}
 
 -- ONE EVENT
 
--- what a table holds of a circuit, apart from its rank: the state and the flags
+-- what a table says of its group, the number of circuits, and what it holds of a circuit apart from its rank, the state and the flags
+pub groupIs : (table : List ℕ) → groupIn table ≡ record { records = recordsIn (length table) }
+groupIs table = refl
+
 pub heldIs : (table : List ℕ) (i : ℕ) → heldAt table i ≡ record { state = stateAt table i; flags = flagsAt table i }
 heldIs table i = refl
 
--- But for 13, what an event answers, and what it leaves at its circuit, depends on what is held of that circuit alone: in two tables of one length
--- that hold the same there it is the same, whatever else they hold.
-pub itsCircuitAlone : (own far : ℕ) (t u : List ℕ) (cic : ℕ) (event : Found) → length t ≡ length u → heldAt t cic ≡ heldAt u cic
+-- But for 13, what an event answers, and what it leaves at its circuit, depends on what is held of that circuit alone: in two tables of one group that
+-- hold the same there it is the same, whatever else they hold.
+pub itsCircuitAlone : (own far : ℕ) (t u : List ℕ) (cic : ℕ) (event : Found) → groupIn t ≡ groupIn u → heldAt t cic ≡ heldAt u cic
     → (stepIn own far t cic event .answer .refusal ≡ 13 → ⊥) → (stepIn own far u cic event .answer .refusal ≡ 13 → ⊥)
     → (stepIn own far t cic event .answer ≡ stepIn own far u cic event .answer)
     × (heldAt (stepIn own far t cic event .table) cic ≡ heldAt (stepIn own far u cic event .table) cic)
-itsCircuitAlone own far t u cic event octets held p q = (local.sameAnswer own far t u cic event octets held p q, local.sameLeft own far t u cic event octets held p q)
+itsCircuitAlone own far t u cic event group held p q = (local.sameAnswer own far t u cic event group held p q, local.sameLeft own far t u cic event group held p q)
 
 -- TWO EVENTS ON DIFFERENT CIRCUITS
 
 -- Two events on different circuits, of which neither is refused 13 in one order, be they accepted or refused otherwise: each answers the same in the
--- other order, with its refusal, state and flags, signals and indication, and in the end the table holds the same of every circuit.
+-- other order, with its refusal, state and flags, signals and indication, and in the end the table holds the same of every circuit. Two events that
+-- are accepted in both orders are a case of this.
 pub eitherOrder : (own far : ℕ) (table : List ℕ) (i j : ℕ) (e f : Found) → (i ≡ j → ⊥)
     → let eFirst = stepIn own far table i e in
     let fThen = stepIn own far (eFirst .table) j f in
