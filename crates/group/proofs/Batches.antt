@@ -34,7 +34,7 @@ Never13 (a ∷ told) = (a .answer .refusal ≡ 13 → ⊥) × Never13 told
 
 -- one of a list that has the number, or has not
 module _ {A : Type 0} (numberOf : A → ℕ) (n : ℕ) (x : A) (xs : List A) where
-  takes : numberOf x ≡ n → only numberOf n (x ∷ xs) ≡ x ∷ only numberOf n xs
+  pub takes : numberOf x ≡ n → only numberOf n (x ∷ xs) ≡ x ∷ only numberOf n xs
   unfolding only
   takes e = rw (eq-eqb (numberOf x) n e) refl
 
@@ -145,25 +145,6 @@ apartStill (List·Permᴰ·swap {l = l} e f) o = (
   (subst (λ (x : Handed). Spares (x .cic) l) e (o .0 .1), o .1 .1),
 )
 apartStill (List·Permᴰ·trans p q) o = apartStill q (apartStill p o)
-
--- and each circuit has the events that it had
-inTurn : (i : ℕ) (x y : Handed) (xs : List Handed) → (x .cic ≡ y .cic → ⊥) → eventsOf i (x ∷ y ∷ xs) ≡ eventsOf i (y ∷ x ∷ xs)
-unfolding only
-inTurn i x y xs other = go (eqb (x .cic) i) (eqb (y .cic) i) refl refl
-  where
-    go : (a b : Bool) → eqb (x .cic) i ≡ a → eqb (y .cic) i ≡ b
-        → cond a (x ∷ cond b (y ∷ eventsOf i xs) (eventsOf i xs)) (cond b (y ∷ eventsOf i xs) (eventsOf i xs))
-        ≡ cond b (y ∷ cond a (x ∷ eventsOf i xs) (eventsOf i xs)) (cond a (x ∷ eventsOf i xs) (eventsOf i xs))
-    go true true p q = absurd (other (eqb-true (x .cic) i p ∙ sym (eqb-true (y .cic) i q)))
-    go true false p q = refl
-    go false b p q = refl
-
-pub sameEvents : (i : ℕ) {xs ys : List Handed} → Rearranged xs ys → Apart xs → eventsOf i xs ≡ eventsOf i ys
-unfolding only
-sameEvents i List·Permᴰ·nil o = refl
-sameEvents i (List·Permᴰ·cons e r) o = let k = sameEvents i r (o .1) in λ j. cond (eqb (e j .cic) i) (e j ∷ k j) (k j)
-sameEvents i (List·Permᴰ·swap {a} {b} {l = l} e f) o = inTurn i a b l (o .0 .0) ∙ (λ j. eventsOf i (f j ∷ e j ∷ l))
-sameEvents i (List·Permᴰ·trans p q) o = sameEvents i p o ∙ sameEvents i q (apartStill p o)
 
 -- a batch is a run of events
 pub aRun : {own far : ℕ} {first table : List ℕ} → Follows own far first table → (xs : List Handed) → Follows own far first (after own far table xs)

@@ -6,4 +6,5 @@ pub mod Lands
 pub mod Local
 pub mod Meets
 pub mod Batches
+pub mod Mixed
 pub mod Orders

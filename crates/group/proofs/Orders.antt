@@ -1,9 +1,9 @@
--- The order of a batch does not matter (docs/RULES.md, "Two circuits, either order"): two events on different circuits, and any batch with at most
--- one event a circuit. If none is refused 13 in one order, none is in any other.
+-- The order of a batch does not matter (docs/RULES.md, "Two circuits, either order"): two events on different circuits, and any batch in any order
+-- that keeps each circuit's events in theirs. If none is refused 13 in one such order, none is in another.
 -- Assumes nothing.
 use mathlib.Core.Path.{_≡_, refl, sym, ap, _∙_, subst}
 use mathlib.Core.Bool.{Bool, true, false, cond}
-use mathlib.Core.List.{List, [], _∷_, map, List·Permᴰ·nil, List·Permᴰ·cons, List·Permᴰ·swap, List·Permᴰ·trans, Permᴰ·map}
+use mathlib.Core.List.{List, [], _∷_, map, Permᴰ·map}
 use Prim.Native.Nat.{ℕ, _+_, _≤_}
 use native.Mathlib.Omega.{arith}
 use lib.Dec.{eqb}
@@ -11,12 +11,13 @@ use lib.ListN.{length}
 use borrow.Author.Tests.{eqb-true, eqb-false}
 use Rattle.words.specs.Words.{largest}
 use Rattle.layout.specs.Layout.{groupIn, heldAt, counterIn}
-use Rattle.group.specs.Batches.{Handed, Answered, given, after, answered, OnceEach, No13, Rearranged}
+use Rattle.group.specs.Batches.{Handed, Answered, given, after, answered, answersOf, OnceEach, No13, Rearranged}
 use Rattle.group.proofs.Laws.{keepsGroup}
 use Rattle.group.proofs.Ranks.{counted, idled, risesBelow, once, spentAt}
 use Rattle.group.proofs.Local.{rises13}
 use Rattle.group.proofs.Meets.{Meets, itself, untouched, elsewhere, nor13, answersAs, leavesAs, freesAs, there}
-use Rattle.group.proofs.Batches.{Apart, Never13, never13, no13, apart, alone, byThemselves, asIfAlone, apartStill, sameEvents}
+use Rattle.group.proofs.Batches.{Never13, never13, no13, apart, alone, byThemselves, asIfAlone, apartStill}
+use Rattle.group.proofs.Mixed.{Mixed, Mixed.none, Mixed.behind, Mixed.exchanged, Mixed.twice, sameEach, rearranged}
 
 -- tables that are the same but for their ranks
 record Even (t u : List ℕ) : Type 0 where
@@ -131,38 +132,43 @@ module _ (own far : ℕ) where
           (rw (← (freesAs own far x xMeets secondToo)) at (counted own far ty (x .cic) (x .event) .counter));
     }
 
-  -- a batch with at most one event a circuit, of which none is refused 13 in one order
-  never13Then : {xs ys : List Handed} → Rearranged xs ys → Apart xs → (table : List ℕ) → Never13 (answered own far table xs) → Never13 (answered own far table ys)
+  -- a batch of which none is refused 13 in one order, and another order that keeps each circuit's events in theirs
+  never13Then : {xs ys : List Handed} → Mixed xs ys → (table : List ℕ) → Never13 (answered own far table xs) → Never13 (answered own far table ys)
   unfolding answered
-  never13Then List·Permᴰ·nil o table n = n
-  never13Then (List·Permᴰ·cons {a} {l₂ = l₂} e r) o table n =
-      subst (λ (x : Handed). Never13 (answered own far table (x ∷ l₂))) e (n .0, never13Then r (o .1) (given own far table a .table) (n .1))
-  never13Then (List·Permᴰ·swap {a} {b} {b′ = b′} {l = l} e f) o table n =
-      subst (λ (x : Handed). Never13 (answered own far table (x ∷ b′ ∷ l))) f
-      (subst (λ (x : Handed). Never13 (answered own far table (b ∷ x ∷ l))) e
-      (firstToo table a b (o .0 .0) (n .0) (n .1 .0), (secondToo table a b (o .0 .0) (n .0) (n .1 .0), evenRun _ _ l (turned (both table a b (o .0 .0) (n .0) (n .1 .0))) (n .1 .1))))
-  never13Then (List·Permᴰ·trans p q) o table n = never13Then q (apartStill p o) table (never13Then p o table n)
+  never13Then none table n = n
+  never13Then (behind x m) table n = (n .0, never13Then m (given own far table x .table) (n .1))
+  never13Then (exchanged x y xs other) table n =
+      (firstToo table x y other (n .0) (n .1 .0), (secondToo table x y other (n .0) (n .1 .0), evenRun _ _ xs (turned (both table x y other (n .0) (n .1 .0))) (n .1 .1)))
+  never13Then (twice m k) table n = never13Then k table (never13Then m table n)
 
-  module _ (table : List ℕ) (xs ys : List Handed) (r : Rearranged xs ys) (o : OnceEach xs) (n : No13 (answered own far table xs)) where
+  module _ (table : List ℕ) {xs ys : List Handed} (m : Mixed xs ys) (n : No13 (answered own far table xs)) where
     n₁ : Never13 (answered own far table xs)
     n₁ = never13 (answered own far table xs) n
 
     n₂ : Never13 (answered own far table ys)
-    n₂ = never13Then r (apart xs o) table n₁
+    n₂ = never13Then m table n₁
 
     pub no13Then : No13 (answered own far table ys)
     no13Then = no13 (answered own far table ys) n₂
 
+    pub answersThen : (i : ℕ) → answersOf i (answered own far table xs) ≡ answersOf i (answered own far table ys)
+    answersThen i = byThemselves own far table i xs n₁ .0 ∙ ap (answered own far table) (sameEach i m) ∙ sym (byThemselves own far table i ys n₂ .0)
+
     pub heldThen : (i : ℕ) → heldAt (after own far table xs) i ≡ heldAt (after own far table ys) i
     heldThen i =
         byThemselves own far table i xs n₁ .1
-        ∙ ap (λ (zs : List Handed). heldAt (after own far table zs) i) (sameEvents i r (apart xs o))
+        ∙ ap (λ (zs : List Handed). heldAt (after own far table zs) i) (sameEach i m)
         ∙ sym (byThemselves own far table i ys n₂ .1)
 
-    pub answeredThen : Rearranged (answered own far table xs) (answered own far table ys)
-    answeredThen =
-        subst (λ (told : List Answered). Rearranged told (answered own far table ys)) (sym (asIfAlone own far table xs (apart xs o) n₁))
-        (subst (λ (told : List Answered). Rearranged (map (alone own far table) xs) told) (sym (asIfAlone own far table ys (apartStill r (apart xs o)) n₂)) (Permᴰ·map (alone own far table) r))
+  -- at most one event a circuit, in any order
+  pub answeredThen : (table : List ℕ) {xs ys : List Handed} → Rearranged xs ys → OnceEach xs → No13 (answered own far table xs)
+      → Rearranged (answered own far table xs) (answered own far table ys)
+  answeredThen table {xs} {ys} r o n =
+      subst (λ (told : List Answered). Rearranged told (answered own far table ys)) (sym (asIfAlone own far table xs (apart xs o) (never13 (answered own far table xs) n)))
+      (subst (λ (told : List Answered). Rearranged (map (alone own far table) xs) told) (sym (asIfAlone own far table ys (apartStill r (apart xs o)) n₃)) (Permᴰ·map (alone own far table) r))
+    where
+      n₃ : Never13 (answered own far table ys)
+      n₃ = never13Then (rearranged r (apart xs o)) table (never13 (answered own far table xs) n)
 
   -- where the counter has room for as many releases as there are events, none is refused 13
   pub roomFor : (table : List ℕ) (xs : List Handed) → counterIn table + length xs ≤ largest → Never13 (answered own far table xs)

@@ -3,7 +3,7 @@
 -- Left out are the release ranks and the counter, and with them the choice of a circuit and refusal 13, which go by these. At the end of the page are
 -- examples in which they depend on the order, and one of two events on one circuit.
 -- Assumes nothing.
-use mathlib.Core.Path.{_≡_, refl, ap, _∙_, sym}
+use mathlib.Core.Path.{_≡_, refl}
 use mathlib.Core.Bool.{cond}
 use mathlib.Core.List.{List, [], _∷_, _++_, map, List·Permᴰ·nil, List·Permᴰ·cons, List·Permᴰ·trans, Permᴰ·middle}
 use Prim.Native.Nat.{ℕ, _+_, _-_, _≤_}
@@ -24,6 +24,7 @@ use Rattle.group.specs.Runs.{Follows, Follows.start}
 use Rattle.group.specs.Batches.{Handed, Answered, after, answered, only, OnceEach, No13, Rearranged}
 use Rattle.group.proofs.Local as local
 use Rattle.group.proofs.Batches as batches
+use Rattle.group.proofs.Mixed as mixed
 use Rattle.group.proofs.Orders as orders
 use Rattle.select.specs.First as First
 use Rattle.select.specs.Selection.{choice, selectIn}
@@ -112,24 +113,26 @@ module _ (own far : ℕ) (table : List ℕ) where
   pub anyOrder : (xs ys : List Handed) → Rearranged xs ys → OnceEach xs → No13 (answered own far table xs)
       → No13 (answered own far table ys) × Rearranged (answered own far table xs) (answered own far table ys)
       × ((i : ℕ) → heldAt (after own far table xs) i ≡ heldAt (after own far table ys) i)
-  anyOrder xs ys r o n = (orders.no13Then own far table xs ys r o n, orders.answeredThen own far table xs ys r o n, orders.heldThen own far table xs ys r o n)
+  anyOrder xs ys r o n =
+      let m = mixed.rearranged r (batches.apart xs o) in
+      (orders.no13Then own far table m n, orders.answeredThen own far table r o n, orders.heldThen own far table m n)
 
-  -- A batch with several events of one circuit: these answer, and leave there, what they would by themselves, in their order. So two batches in which
-  -- each circuit has the same events in the same order give each event the same answer and leave the same, however the circuits are mixed.
+  -- A batch with several events of one circuit: these answer, and leave there, what they would by themselves, in their order.
   pub eachCircuitsEvents : (i : ℕ) (xs : List Handed) → No13 (answered own far table xs)
       → let mine = only (λ (x : Handed). x .cic) i xs in
       (only (λ (a : Answered). a .to .cic) i (answered own far table xs) ≡ answered own far table mine)
       × (heldAt (after own far table xs) i ≡ heldAt (after own far table mine) i)
   eachCircuitsEvents i xs n = batches.byThemselves own far table i xs (batches.never13 (answered own far table xs) n)
 
-  pub howeverMixed : (xs ys : List Handed) → No13 (answered own far table xs) → No13 (answered own far table ys)
-      → (i : ℕ) → only (λ (x : Handed). x .cic) i xs ≡ only (λ (x : Handed). x .cic) i ys
-      → (only (λ (a : Answered). a .to .cic) i (answered own far table xs) ≡ only (λ (a : Answered). a .to .cic) i (answered own far table ys))
-      × (heldAt (after own far table xs) i ≡ heldAt (after own far table ys) i)
-  howeverMixed xs ys n m i e =
-      let p = eachCircuitsEvents i xs n in
-      let q = eachCircuitsEvents i ys m in
-      (p .0 ∙ ap (answered own far table) e ∙ sym (q .0), p .1 ∙ ap (λ (zs : List Handed). heldAt (after own far table zs) i) e ∙ sym (q .1))
+  -- So two batches in which each circuit has the same events in the same order, however the circuits are mixed: if none is refused 13 in the one,
+  -- none is in the other, each circuit's events have the same answers, and in the end the table holds the same of every circuit.
+  pub howeverMixed : (xs ys : List Handed) → ((i : ℕ) → only (λ (x : Handed). x .cic) i xs ≡ only (λ (x : Handed). x .cic) i ys) → No13 (answered own far table xs)
+      → No13 (answered own far table ys)
+      × ((i : ℕ) → only (λ (a : Answered). a .to .cic) i (answered own far table xs) ≡ only (λ (a : Answered). a .to .cic) i (answered own far table ys))
+      × ((i : ℕ) → heldAt (after own far table xs) i ≡ heldAt (after own far table ys) i)
+  howeverMixed xs ys same n =
+      let m = mixed.mixed xs ys same in
+      (orders.no13Then own far table m n, orders.answersThen own far table m n, orders.heldThen own far table m n)
 
   -- no event of a batch is refused 13, in whatever order, where the counter is below its largest value by as many as there are events
   pub fewNever13 : (xs : List Handed) → counterIn table + length xs ≤ largest → No13 (answered own far table xs)
