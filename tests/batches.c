@@ -79,8 +79,7 @@ static void list_records(void)
     uint8_t table[TUP_TABLE_OCTETS(1)] = {0};
     unsigned count = 0;
     for (unsigned i = 0; i < STATES * FLAGS; i++) {
-        table[TUP_RECORD_AT(0) + TUP_RECORD_STATE] = (uint8_t)(i / FLAGS);
-        table[TUP_RECORD_AT(0) + TUP_RECORD_FLAGS] = (uint8_t)(i % FLAGS);
+        put_record(table, 0, i / FLAGS, i % FLAGS, 0);
         if (!tup_record_bad(table, 0) && count++ < LEGAL)
             records[count - 1] = (struct record){(uint8_t)(i / FLAGS), (uint8_t)(i % FLAGS)};
     }
@@ -98,10 +97,7 @@ static void make_table(uint32_t own, uint32_t circuits)
 
 static void set_record(uint32_t cic, const struct record *record, uint64_t rank)
 {
-    uint8_t *at = before + TUP_RECORD_AT(cic);
-    at[TUP_RECORD_STATE] = record->state;
-    at[TUP_RECORD_FLAGS] = record->flags;
-    put_eight(at + TUP_RECORD_RANK, rank);
+    put_record(before, cic, record->state, record->flags, rank);
 }
 
 /* State and flags; ranks are not looked at. */
@@ -341,9 +337,6 @@ static void exchange(void)
 }
 
 /* Every event, record and neighbour. */
-
-static const uint64_t edges[] = {0, 1, 255, 0xFFFFFFFF, 0x0102030405060708, UINT64_MAX - 1, UINT64_MAX};
-enum { EDGES = sizeof edges / sizeof *edges };
 
 /* The one event of the batch, on either circuit of two, with this record there and that one beside it. */
 static void give_beside(struct given *to, const struct record *own, const struct record *beside, unsigned which)

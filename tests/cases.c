@@ -182,12 +182,9 @@ static void expect(const char *what, uint64_t got, uint64_t want)
 static void lay_out(uint8_t table[TUP_TABLE_OCTETS(2)], uint32_t cic, uint32_t state, uint32_t flags, uint64_t counter,
                     uint64_t rank)
 {
-    uint8_t *record = table + TUP_RECORD_AT(cic);
     memset(table, 99, TUP_TABLE_OCTETS(2)); /* the other record is a bad one, which must not matter */
     put_eight(table, counter);
-    put_eight(record + TUP_RECORD_RANK, rank);
-    record[TUP_RECORD_STATE] = (uint8_t)state;
-    record[TUP_RECORD_FLAGS] = (uint8_t)flags;
+    put_record(table, cic, state, flags, rank);
 }
 
 static void run_step_case(stepper step, const struct step_case *c, const struct ranks *ranks)
@@ -340,12 +337,8 @@ static void run_select_case(selector select, const struct select_case *c)
     case_now = c->name;
     for (int full = 0; full < 2; full++) { /* the counter is not looked at */
         put_eight(table, full ? FULL : 0);
-        for (uint32_t cic = 0; cic < 4; cic++) {
-            uint8_t *record = table + TUP_RECORD_AT(cic);
-            record[TUP_RECORD_STATE] = c->records[cic].state;
-            record[TUP_RECORD_FLAGS] = c->records[cic].flags;
-            put_eight(record + TUP_RECORD_RANK, c->records[cic].rank);
-        }
+        for (uint32_t cic = 0; cic < 4; cic++)
+            put_record(table, cic, c->records[cic].state, c->records[cic].flags, c->records[cic].rank);
         memcpy(kept, table, sizeof table);
         uint64_t answer = select(c->own, c->far, table, TUP_TABLE_OCTETS(c->circuits));
         expect("the refusal", tup_selected_refusal(answer), c->refusal);

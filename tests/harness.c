@@ -1,6 +1,7 @@
 /* The shared parts of the test programs. */
 #define _GNU_SOURCE
 #include "harness.h"
+#include "tup.h"
 
 #include <signal.h>
 #include <stdarg.h>
@@ -23,6 +24,8 @@ const struct particulars listed[LISTED] = {
     {2, 7, 0x75},    {2, 7, 0x85},    {2, 7, 0x95},    {2, 8, 0},       {2, 9, 0},       {2, 10, 0},      {3, 1, 0},
     {3, 2, 0},       {3, 3, 0},       {3, 4, 0},       {3, 5, 0},       {3, 6, 0},
 };
+
+const uint64_t edges[EDGES] = {0, 1, 255, 256, 0xFFFFFFFF, 0x0102030405060708, UINT64_MAX - 1, UINT64_MAX};
 
 static const char *program = "test";
 static void (*describe_call)(void);
@@ -251,6 +254,14 @@ void put_eight(uint8_t *at, uint64_t number)
 {
     for (int i = 0; i < 8; i++)
         at[i] = (uint8_t)(number >> 8 * i);
+}
+
+void put_record(uint8_t *table, uint32_t cic, uint32_t state, uint32_t flags, uint64_t rank)
+{
+    uint8_t *record = table + TUP_RECORD_AT(cic);
+    record[TUP_RECORD_STATE] = (uint8_t)state;
+    record[TUP_RECORD_FLAGS] = (uint8_t)flags;
+    put_eight(record + TUP_RECORD_RANK, rank);
 }
 
 uint32_t widened(uint32_t number, unsigned which)

@@ -78,6 +78,14 @@ void pattern(uint8_t *at, size_t len);
 /* A number in eight octets, lowest first, as a table holds its counter and its ranks. */
 void put_eight(uint8_t *at, uint64_t number);
 
+/* A circuit's record in a table, legal or not. */
+void put_record(uint8_t *table, uint32_t cic, uint32_t state, uint32_t flags, uint64_t rank);
+
+/* Counters and ranks at the edges of an octet, of 32 bits and of 64; the last is full. A host may lend any rank beside any
+   counter. */
+enum { EDGES = 8 };
+extern const uint64_t edges[EDGES];
+
 /* Memory of a length beyond 32 bits, of which no octet is touched yet */
 #define VAST ((size_t)1 << 32)
 uint8_t *vast_make(void);

@@ -29,12 +29,11 @@ static void expect(const char *what, uint64_t got, uint64_t wanted)
         differ("%s: %llu instead of %llu", what, (unsigned long long)got, (unsigned long long)wanted);
 }
 
-static void put_record(uint32_t circuit, uint32_t state, uint32_t flags)
+static void lay_record(uint32_t circuit, uint32_t state, uint32_t flags)
 {
     now.state = state, now.flags = flags;
     memset(table, 0, TUP_TABLE_OCTETS(GROUP));
-    table[TUP_RECORD_AT(circuit) + TUP_RECORD_STATE] = (uint8_t)state;
-    table[TUP_RECORD_AT(circuit) + TUP_RECORD_FLAGS] = (uint8_t)flags;
+    put_record(table, circuit, state, flags, 0);
 }
 
 static uint32_t refusal_of(uint32_t circuit, uint32_t kind, uint32_t code)
@@ -48,7 +47,7 @@ static void bad_records(void)
     unsigned long bad = 0;
     for (uint32_t state = 0; state < 256; state++)
         for (uint32_t flags = 0; flags < 256; flags++) {
-            put_record(3, state, flags);
+            lay_record(3, state, flags);
             uint32_t refusal = refusal_of(3, 0, 0);
             expect("a bad record", tup_record_bad(table, 3) != 0, refusal == TUP_BAD_RECORD);
             expect("a good record", !tup_record_bad(table, 3), refusal == TUP_NO_SUCH_EVENT);
@@ -70,7 +69,7 @@ static void timers(void)
     for (uint32_t state = 0; state <= TUP_AWAITING_RESET; state++)
         for (uint32_t flags = 0; flags < 16; flags++)
             for (uint32_t timer = 1; timer <= TUP_TIMER_BLOCK_REPEAT; timer++) {
-                put_record(3, state, flags);
+                lay_record(3, state, flags);
                 now.number = timer;
                 if (tup_record_bad(table, 3))
                     continue;
@@ -105,7 +104,7 @@ static void control(void)
     for (unsigned i = 0; i < 8; i++)
         for (unsigned j = 0; j < 8; j++)
             for (uint32_t circuit = 0; circuit < GROUP && i != j; circuit++) {
-                put_record(circuit, TUP_OUT_SEIZED, 0);
+                lay_record(circuit, TUP_OUT_SEIZED, 0);
                 now.number = circuit;
                 uint64_t answer = tup_step(codes[i], codes[j], table, TUP_TABLE_OCTETS(GROUP), circuit, TUP_SIGNAL, TUP_IAM, 0);
                 expect("who controls", tup_answer_indication(answer),
@@ -159,7 +158,7 @@ static void codes_exchanged(void)
     static const uint8_t release_guard[] = {0x02, 0x40, 0x00, 0x00, 0x00, 0x17};
     uint8_t fields[TUP_MESSAGE_OCTETS];
     for (uint32_t exchanged = 0; exchanged < 2; exchanged++) {
-        put_record(0, TUP_OUT_SEIZED, 0);
+        lay_record(0, TUP_OUT_SEIZED, 0);
         now.number = exchanged;
         uint32_t own = 2 - exchanged, far = 1 + exchanged;
         uint64_t answer = tup_step(own, far, table, TUP_TABLE_OCTETS(GROUP), 0, TUP_SIGNAL, TUP_IAM, 0);
@@ -168,7 +167,7 @@ static void codes_exchanged(void)
         expect("a message", tup_read_refusal(read), exchanged ? TUP_WRONG_LABEL : TUP_ACCEPTED);
         expect("its place", tup_read_place(read), 0);
     }
-    put_record(0, TUP_OUT_SEIZED, 0);
+    lay_record(0, TUP_OUT_SEIZED, 0);
     uint64_t other = tup_step(1, 2, table, TUP_TABLE_OCTETS(GROUP), 0, TUP_SIGNAL, TUP_IAM, 0);
     expect("the other end", tup_answer_state(other), TUP_IN_SEIZED);
 }
@@ -178,9 +177,9 @@ static void left_out(void)
 {
     for (uint32_t state = 0; state <= TUP_AWAITING_RESET; state++)
         for (uint32_t flags = 0; flags < 16; flags++) {
-            put_record(2, state, flags);
+            lay_record(2, state, flags);
             int bad = tup_record_bad(table, 2);
-            put_record(2, state, flags | TUP_FAR_BLOCK);
+            lay_record(2, state, flags | TUP_FAR_BLOCK);
             expect("bad with far block", !bad && tup_record_bad(table, 2), 0);
         }
 }
@@ -190,7 +189,7 @@ static void enums(void)
 {
     for (unsigned i = 0; i < LISTED; i++)
         for (uint32_t state = 0; state <= TUP_AWAITING_RESET; state++) {
-            put_record(1, state, 0);
+            lay_record(1, state, 0);
             uint64_t answer = tup_step(2, 1, table, TUP_TABLE_OCTETS(GROUP), 1, listed[i].kind, listed[i].code, listed[i].detail);
             expect("the refusal", tup_refusal_of_answer(answer), answer & 255);
             expect("the indication", tup_indication_of_answer(answer), answer >> 8 & 255);

@@ -58,9 +58,7 @@ static int seen_to_free(uint32_t own, uint32_t far)
     uint8_t table[TUP_TABLE_OCTETS(1)] = {0};
     now.own = own, now.far = far, now.cic = 0, now.counter = 500;
     put_eight(table, now.counter);
-    put_eight(table + TUP_RECORD_AT(0) + TUP_RECORD_RANK, 77);
-    table[TUP_RECORD_AT(0) + TUP_RECORD_STATE] = (uint8_t)now.state;
-    table[TUP_RECORD_AT(0) + TUP_RECORD_FLAGS] = (uint8_t)now.flags;
+    put_record(table, 0, now.state, now.flags, 77);
     uint64_t answer = step(table, sizeof table);
     uint64_t counter = tup_counter(table), rank = tup_record_rank(table, 0);
     int to_idle = tup_answer_refusal(answer) == 0 && now.state != TUP_IDLE && tup_record_state(table, 0) == TUP_IDLE;

@@ -272,11 +272,9 @@ static void compare(const char *what, uint64_t got, uint64_t want)
 
 static void one_case(void)
 {
-    uint8_t table[TUP_TABLE_OCTETS(2)] = {0}, *record = table + TUP_RECORD_AT(now.cic);
+    uint8_t table[TUP_TABLE_OCTETS(2)] = {0};
     put_eight(table, now.counter);
-    put_eight(record + TUP_RECORD_RANK, now.rank);
-    record[TUP_RECORD_STATE] = (uint8_t)now.state;
-    record[TUP_RECORD_FLAGS] = (uint8_t)now.flags;
+    put_record(table, now.cic, now.state, now.flags, now.rank);
     now.row = NULL;
     struct row *row = row_of_case();
     struct says says = with_rank(row != NULL ? by_row(row) : by_no_row());
@@ -332,8 +330,7 @@ static void every_legal(void)
 {
     for (unsigned i = 0; i < OCTET * OCTET; i++) {
         uint8_t table[TUP_TABLE_OCTETS(1)] = {0};
-        table[TUP_RECORD_AT(0) + TUP_RECORD_STATE] = (uint8_t)(i / OCTET);
-        table[TUP_RECORD_AT(0) + TUP_RECORD_FLAGS] = (uint8_t)(i % OCTET);
+        put_record(table, 0, i / OCTET, i % OCTET, 0);
         uint64_t got = tup_step(2, 1, table, sizeof table, 0, TUP_TIMER, TUP_TIMER_ADDRESS, 0);
         if ((tup_answer_refusal(got) == TUP_BAD_RECORD) == legal[i / OCTET][i % OCTET])
             differ("state %u with flags %u: the page and the archive do not agree that it is legal", i / OCTET, i % OCTET);

@@ -46,10 +46,7 @@ static void place_table(enum role role, enum place place, uint32_t circuits)
 
 static void set_record(uint32_t cic, unsigned state, unsigned flags, uint64_t rank)
 {
-    uint8_t *record = table + TUP_RECORD_AT(cic);
-    record[TUP_RECORD_STATE] = (uint8_t)state;
-    record[TUP_RECORD_FLAGS] = (uint8_t)flags;
-    put_eight(record + TUP_RECORD_RANK, rank);
+    put_record(table, cic, state, flags, rank);
 }
 
 static uint64_t compare(void)

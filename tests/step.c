@@ -11,10 +11,6 @@
 
 enum { MARGIN = 64 }; /* octets compared where the table is one of up to five circuits at an end of the room */
 
-/* Counters and ranks at the edges of an octet, of 32 bits and of 64. A host may lend any rank beside any counter. */
-static const uint64_t edges[] = {0, 1, 255, 256, 0xFFFFFFFF, 0x0102030405060708, UINT64_MAX - 1, UINT64_MAX};
-enum { EDGES = sizeof edges / sizeof *edges };
-
 static struct call {
     uint32_t own, far, cic, kind, code, detail;
     size_t len;

@@ -2,14 +2,14 @@
 -- Assumes nothing.
 use mathlib.Core.Path.{_≡_, refl, sym, ap, _∙_, subst}
 use mathlib.Core.Bool.{Bool, true, false, cond}
-use mathlib.Core.List.{List, [], _∷_, map, cons-ne-nil, List·Permᴰ·nil, List·Permᴰ·cons, List·Permᴰ·swap, List·Permᴰ·trans}
+use mathlib.Core.List.{List, [], _∷_, map, cons-ne-nil}
 use Prim.Native.Nat.{ℕ, _≤_}
 use native.Mathlib.Omega.{arith}
 use lib.Dec.{eqb}
 use lib.ListN.{length}
 use borrow.Author.Tests.{eqb-true, eqb-false, eq-eqb, ne-eqb}
 use Rattle.layout.specs.Layout.{heldAt}
-use Rattle.group.specs.Batches.{Handed, Answered, given, after, answered, only, eventsOf, answersOf, OnceEach, No13, Rearranged}
+use Rattle.group.specs.Batches.{Handed, Answered, given, after, answered, only, eventsOf, answersOf, OnceEach, No13}
 use Rattle.group.specs.Runs.{Follows, Follows.next}
 use Rattle.group.proofs.Meets.{Meets, itself, elsewhere, answersAs, there}
 
@@ -66,9 +66,12 @@ spares : (i : ℕ) (xs : List Handed) → length (eventsOf i xs) ≤ 0 → Spare
 spares i [] h = tt
 spares i (x ∷ xs) h = (λ e. omega (arith, ap length (takes cicOf i x xs (sym e)), h), spares i xs (omega (arith, fewer cicOf i x xs, h)))
 
+pub onceBehind : (x : Handed) (xs : List Handed) → OnceEach (x ∷ xs) → OnceEach xs
+onceBehind x xs o i = omega (arith, fewer cicOf i x xs, o i)
+
 pub apart : (xs : List Handed) → OnceEach xs → Apart xs
 apart [] o = tt
-apart (x ∷ xs) o = (spares (x .cic) xs (omega (arith, ap length (takes cicOf (x .cic) x xs refl), o (x .cic))), apart xs (λ i. omega (arith, fewer cicOf i x xs, o i)))
+apart (x ∷ xs) o = (spares (x .cic) xs (omega (arith, ap length (takes cicOf (x .cic) x xs refl), o (x .cic))), apart xs (onceBehind x xs o))
 
 module _ (own far : ℕ) where
   -- a circuit's events in the midst of others', from u, answer and leave there what they do by themselves, from t
@@ -101,8 +104,8 @@ module _ (own far : ℕ) where
   along t u i [] m n = (refl, sym (m .held))
   along t u i (x ∷ xs) m n = oneMore t u i x xs m (n .0) (λ s k. along s (given own far u x .table) i xs k (n .1))
 
-  pub byThemselves : (table : List ℕ) (i : ℕ) (xs : List Handed) → Never13 (answered own far table xs) → Along table table i xs
-  byThemselves table i xs n = along table table i xs (itself table i) n
+  pub byThemselves : (table : List ℕ) (i : ℕ) (xs : List Handed) → No13 (answered own far table xs) → Along table table i xs
+  byThemselves table i xs n = along table table i xs (itself table i) (never13 (answered own far table xs) n)
 
   -- at every circuit of a batch
   abbrev AllMeet : (t u : List ℕ) → List Handed → Type 0
@@ -127,24 +130,8 @@ module _ (own far : ℕ) where
   eachAlone t u (x ∷ xs) a o n =
       λ j. record { to = x; answer = answersAs own far x (a .0) (n .0) j } ∷ eachAlone t (given own far u x .table) xs (behind t u x xs (o .0) (a .1)) (o .1) (n .1) j
 
-  pub asIfAlone : (table : List ℕ) (xs : List Handed) → Apart xs → Never13 (answered own far table xs) → answered own far table xs ≡ map (alone table) xs
-  asIfAlone table xs = eachAlone table table xs (atFirst table xs)
-
--- rearranged, a batch has at most one event a circuit still
-sparesStill : (i : ℕ) {xs ys : List Handed} → Rearranged xs ys → Spares i xs → Spares i ys
-sparesStill i List·Permᴰ·nil s = s
-sparesStill i (List·Permᴰ·cons e r) s = (λ z. s .0 (z ∙ ap cicOf (sym e)), sparesStill i r (s .1))
-sparesStill i (List·Permᴰ·swap e f) s = (λ z. s .1 .0 (z ∙ ap cicOf (sym f)), (λ z. s .0 (z ∙ ap cicOf (sym e)), s .1 .1))
-sparesStill i (List·Permᴰ·trans p q) s = sparesStill i q (sparesStill i p s)
-
-pub apartStill : {xs ys : List Handed} → Rearranged xs ys → Apart xs → Apart ys
-apartStill List·Permᴰ·nil o = o
-apartStill (List·Permᴰ·cons {l₂ = l₂} e r) o = (subst (λ (x : Handed). Spares (x .cic) l₂) e (sparesStill _ r (o .0)), apartStill r (o .1))
-apartStill (List·Permᴰ·swap {l = l} e f) o = (
-  (λ z. o .0 .0 (ap cicOf e ∙ sym z ∙ ap cicOf (sym f)), subst (λ (x : Handed). Spares (x .cic) l) f (o .1 .0)),
-  (subst (λ (x : Handed). Spares (x .cic) l) e (o .0 .1), o .1 .1),
-)
-apartStill (List·Permᴰ·trans p q) o = apartStill q (apartStill p o)
+  pub asIfAlone : (table : List ℕ) (xs : List Handed) → OnceEach xs → No13 (answered own far table xs) → answered own far table xs ≡ map (alone table) xs
+  asIfAlone table xs o n = eachAlone table table xs (atFirst table xs) (apart xs o) (never13 (answered own far table xs) n)
 
 -- a batch is a run of events
 pub aRun : {own far : ℕ} {first table : List ℕ} → Follows own far first table → (xs : List Handed) → Follows own far first (after own far table xs)

@@ -4,12 +4,12 @@
 use mathlib.Core.Path.{_≡_, refl, sym, ap, _∙_, subst}
 use mathlib.Core.Bool.{Bool, true, false, cond}
 use mathlib.Core.List.{List, [], _∷_, _++_, cons-ne-nil, List·Permᴰ·nil, List·Permᴰ·cons, List·Permᴰ·swap, List·Permᴰ·trans}
-use Prim.Native.Nat.{ℕ}
+use Prim.Native.Nat.{ℕ, _≤_}
 use lib.Dec.{eqb}
-use lib.ListN.{getD, drop}
+use lib.ListN.{length, getD, drop}
 use borrow.Author.Tests.{eqb-true, eqb-false}
-use Rattle.group.specs.Batches.{Handed, only, eventsOf, Rearranged}
-use Rattle.group.proofs.Batches.{Spares, Apart, takes, apartStill}
+use Rattle.group.specs.Batches.{Handed, only, eventsOf, OnceEach, Rearranged}
+use Rattle.group.proofs.Batches.{Spares, takes, onceBehind, apart}
 
 pub data Mixed : List Handed → List Handed → Type 0 where
   none : Mixed [] []
@@ -62,10 +62,10 @@ find x others (y ∷ ys) e = go (eqb (y .cic) (x .cic)) refl e (find x others ys
     go true p q more = record { earlier = []; later = ys; is = λ j. getD (sym q j) 0 x ∷ ys; spares = tt }
     go false p q more = let k : Place x ys = more q in record { earlier = y ∷ k .earlier; later = k .later; is = λ j. y ∷ k .is j; spares = (λ z. eqb-false (y .cic) (x .cic) p (sym z), k .spares) }
 
--- without a first event that both have
-without : (i : ℕ) (x : Handed) (xs ys : List Handed) → eventsOf i (x ∷ xs) ≡ eventsOf i (x ∷ ys) → eventsOf i xs ≡ eventsOf i ys
+-- a first event that both have does not matter
+cancelled : (i : ℕ) (x : Handed) (xs ys : List Handed) → eventsOf i (x ∷ xs) ≡ eventsOf i (x ∷ ys) → eventsOf i xs ≡ eventsOf i ys
 unfolding only
-without i x xs ys = go (eqb (x .cic) i)
+cancelled i x xs ys = go (eqb (x .cic) i)
   where
     go : (b : Bool) → cond b (x ∷ eventsOf i xs) (eventsOf i xs) ≡ cond b (x ∷ eventsOf i ys) (eventsOf i ys) → eventsOf i xs ≡ eventsOf i ys
     go true q = ap (drop 1) q
@@ -78,12 +78,15 @@ mixed [] (y ∷ ys) same = absurd (cons-ne-nil y (eventsOf (y .cic) ys) (sym (ta
 mixed (x ∷ xs) ys same =
     let p : Place x ys = find x (eventsOf (x .cic) xs) ys (sym (same (x .cic)) ∙ takes (λ (x : Handed). x .cic) (x .cic) x xs refl) in
     let back : Mixed (x ∷ (p .earlier ++ p .later)) ys = subst (Mixed (x ∷ (p .earlier ++ p .later))) (p .is) (goesBack x (p .earlier) (p .later) (p .spares)) in
-    twice (behind x (mixed xs (p .earlier ++ p .later) (λ i. without i x xs (p .earlier ++ p .later) (same i ∙ sym (sameEach i back))))) back
+    twice (behind x (mixed xs (p .earlier ++ p .later) (λ i. cancelled i x xs (p .earlier ++ p .later) (same i ∙ sym (sameEach i back))))) back
 
 -- a batch with at most one event a circuit, in any order
-pub rearranged : {xs ys : List Handed} → Rearranged xs ys → Apart xs → Mixed xs ys
+pub onceStill : {xs ys : List Handed} → Mixed xs ys → OnceEach xs → OnceEach ys
+onceStill m o i = subst (λ (events : List Handed). length events ≤ 1) (sameEach i m) (o i)
+
+pub rearranged : {xs ys : List Handed} → Rearranged xs ys → OnceEach xs → Mixed xs ys
 rearranged List·Permᴰ·nil o = none
-rearranged (List·Permᴰ·cons {a} {l₁ = l₁} {l₂ = l₂} e r) o = subst (λ (x : Handed). Mixed (a ∷ l₁) (x ∷ l₂)) e (behind a (rearranged r (o .1)))
+rearranged (List·Permᴰ·cons {a} {l₁ = l₁} {l₂ = l₂} e r) o = subst (λ (x : Handed). Mixed (a ∷ l₁) (x ∷ l₂)) e (behind a (rearranged r (onceBehind a l₁ o)))
 rearranged (List·Permᴰ·swap {a} {b} {b′ = b′} {l = l} e f) o =
-    subst (λ (x : Handed). Mixed (a ∷ b ∷ l) (x ∷ b′ ∷ l)) f (subst (λ (x : Handed). Mixed (a ∷ b ∷ l) (b ∷ x ∷ l)) e (exchanged a b l (o .0 .0)))
-rearranged (List·Permᴰ·trans p q) o = twice (rearranged p o) (rearranged q (apartStill p o))
+    subst (λ (x : Handed). Mixed (a ∷ b ∷ l) (x ∷ b′ ∷ l)) f (subst (λ (x : Handed). Mixed (a ∷ b ∷ l) (b ∷ x ∷ l)) e (exchanged a b l (apart (a ∷ b ∷ l) o .0 .0)))
+rearranged (List·Permᴰ·trans p q) o = let m = rearranged p o in twice m (rearranged q (onceStill m o))

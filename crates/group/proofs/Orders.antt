@@ -16,8 +16,8 @@ use Rattle.group.proofs.Laws.{keepsGroup}
 use Rattle.group.proofs.Ranks.{counted, idled, risesBelow, once, spentAt}
 use Rattle.group.proofs.Local.{rises13}
 use Rattle.group.proofs.Meets.{Meets, itself, untouched, elsewhere, nor13, answersAs, leavesAs, freesAs, there}
-use Rattle.group.proofs.Batches.{Never13, never13, no13, apart, alone, byThemselves, asIfAlone, apartStill}
-use Rattle.group.proofs.Mixed.{Mixed, Mixed.none, Mixed.behind, Mixed.exchanged, Mixed.twice, sameEach, rearranged}
+use Rattle.group.proofs.Batches.{Never13, never13, no13, alone, byThemselves, asIfAlone}
+use Rattle.group.proofs.Mixed.{Mixed, Mixed.none, Mixed.behind, Mixed.exchanged, Mixed.twice, sameEach, onceStill, rearranged}
 
 -- tables that are the same but for their ranks
 record Even (t u : List ℕ) : Type 0 where
@@ -142,39 +142,35 @@ module _ (own far : ℕ) where
   never13Then (twice m k) table n = never13Then k table (never13Then m table n)
 
   module _ (table : List ℕ) {xs ys : List Handed} (m : Mixed xs ys) (n : No13 (answered own far table xs)) where
-    n₁ : Never13 (answered own far table xs)
-    n₁ = never13 (answered own far table xs) n
-
-    n₂ : Never13 (answered own far table ys)
-    n₂ = never13Then m table n₁
-
     pub no13Then : No13 (answered own far table ys)
-    no13Then = no13 (answered own far table ys) n₂
+    no13Then = no13 (answered own far table ys) (never13Then m table (never13 (answered own far table xs) n))
 
     pub answersThen : (i : ℕ) → answersOf i (answered own far table xs) ≡ answersOf i (answered own far table ys)
-    answersThen i = byThemselves own far table i xs n₁ .0 ∙ ap (answered own far table) (sameEach i m) ∙ sym (byThemselves own far table i ys n₂ .0)
+    answersThen i = byThemselves own far table i xs n .0 ∙ ap (answered own far table) (sameEach i m) ∙ sym (byThemselves own far table i ys no13Then .0)
 
     pub heldThen : (i : ℕ) → heldAt (after own far table xs) i ≡ heldAt (after own far table ys) i
     heldThen i =
-        byThemselves own far table i xs n₁ .1
+        byThemselves own far table i xs n .1
         ∙ ap (λ (zs : List Handed). heldAt (after own far table zs) i) (sameEach i m)
-        ∙ sym (byThemselves own far table i ys n₂ .1)
+        ∙ sym (byThemselves own far table i ys no13Then .1)
 
   -- at most one event a circuit, in any order
   pub answeredThen : (table : List ℕ) {xs ys : List Handed} → Rearranged xs ys → OnceEach xs → No13 (answered own far table xs)
       → Rearranged (answered own far table xs) (answered own far table ys)
   answeredThen table {xs} {ys} r o n =
-      subst (λ (told : List Answered). Rearranged told (answered own far table ys)) (sym (asIfAlone own far table xs (apart xs o) (never13 (answered own far table xs) n)))
-      (subst (λ (told : List Answered). Rearranged (map (alone own far table) xs) told) (sym (asIfAlone own far table ys (apartStill r (apart xs o)) n₃)) (Permᴰ·map (alone own far table) r))
-    where
-      n₃ : Never13 (answered own far table ys)
-      n₃ = never13Then (rearranged r (apart xs o)) table (never13 (answered own far table xs) n)
+      let m = rearranged r o in
+      subst (λ (told : List Answered). Rearranged told (answered own far table ys)) (sym (asIfAlone own far table xs o n))
+      (subst (λ (told : List Answered). Rearranged (map (alone own far table) xs) told) (sym (asIfAlone own far table ys (onceStill m o) (no13Then table m n)))
+      (Permᴰ·map (alone own far table) r))
 
   -- where the counter has room for as many releases as there are events, none is refused 13
-  pub roomFor : (table : List ℕ) (xs : List Handed) → counterIn table + length xs ≤ largest → Never13 (answered own far table xs)
+  room : (table : List ℕ) (xs : List Handed) → counterIn table + length xs ≤ largest → Never13 (answered own far table xs)
   unfolding answered
-  roomFor table [] h = tt
-  roomFor table (x ∷ xs) h =
+  room table [] h = tt
+  room table (x ∷ xs) h =
       let after = given own far table x .table in
       let rose : counterIn after ≤ counterIn table + 1 = once (idled table after (x .cic)) (counterIn table) (counterIn after) (counterIn table) (counted own far table (x .cic) (x .event) .counter) (omega arith) in
-      (λ e. omega (arith, h, spentAt own far table (x .cic) (x .event) e), roomFor after xs (omega (arith, rose, h)))
+      (λ e. omega (arith, h, spentAt own far table (x .cic) (x .event) e), room after xs (omega (arith, rose, h)))
+
+  pub roomFor : (table : List ℕ) (xs : List Handed) → counterIn table + length xs ≤ largest → No13 (answered own far table xs)
+  roomFor table xs h = no13 (answered own far table xs) (room table xs h)

@@ -106,7 +106,7 @@ module _ (own far : ℕ) (table : List ℕ) where
   -- stood before the batch.
   pub asIfAlone : (xs : List Handed) → OnceEach xs → No13 (answered own far table xs)
       → answered own far table xs ≡ map (λ (x : Handed). record { to = x; answer = stepIn own far table (x .cic) (x .event) .answer }) xs
-  asIfAlone xs o n = batches.asIfAlone own far table xs (batches.apart xs o) (batches.never13 (answered own far table xs) n)
+  asIfAlone = batches.asIfAlone own far table
 
   -- So it may be given in any order: none is refused 13 then either, each event has the same answer, and in the end the table holds the same of
   -- every circuit. The batch has any length.
@@ -114,7 +114,7 @@ module _ (own far : ℕ) (table : List ℕ) where
       → No13 (answered own far table ys) × Rearranged (answered own far table xs) (answered own far table ys)
       × ((i : ℕ) → heldAt (after own far table xs) i ≡ heldAt (after own far table ys) i)
   anyOrder xs ys r o n =
-      let m = mixed.rearranged r (batches.apart xs o) in
+      let m = mixed.rearranged r o in
       (orders.no13Then own far table m n, orders.answeredThen own far table r o n, orders.heldThen own far table m n)
 
   -- A batch with several events of one circuit: these answer, and leave there, what they would by themselves, in their order.
@@ -122,7 +122,7 @@ module _ (own far : ℕ) (table : List ℕ) where
       → let mine = only (λ (x : Handed). x .cic) i xs in
       (only (λ (a : Answered). a .to .cic) i (answered own far table xs) ≡ answered own far table mine)
       × (heldAt (after own far table xs) i ≡ heldAt (after own far table mine) i)
-  eachCircuitsEvents i xs n = batches.byThemselves own far table i xs (batches.never13 (answered own far table xs) n)
+  eachCircuitsEvents = batches.byThemselves own far table
 
   -- So two batches in which each circuit has the same events in the same order, however the circuits are mixed: if none is refused 13 in the one,
   -- none is in the other, each circuit's events have the same answers, and in the end the table holds the same of every circuit.
@@ -136,7 +136,7 @@ module _ (own far : ℕ) (table : List ℕ) where
 
   -- no event of a batch is refused 13, in whatever order, where the counter is below its largest value by as many as there are events
   pub fewNever13 : (xs : List Handed) → counterIn table + length xs ≤ largest → No13 (answered own far table xs)
-  fewNever13 xs h = batches.no13 (answered own far table xs) (orders.roomFor own far table xs h)
+  fewNever13 = orders.roomFor own far table
 
 -- WHAT DOES DEPEND ON THE ORDER
 
