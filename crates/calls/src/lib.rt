@@ -1,5 +1,6 @@
 // The call part of the rows for signals (docs/RULES.md, "Signals that arrive") as one constant table: state, role and signal to the new
 // state, the signal sent and the indication. Block and unblock are in `marks`.
+#![tactic(auto)]
 ghost use Rattle.std.specs.Prelude.{◌≡◌, cond, ◌<◌, ◌≤◌};
 ghost use Rattle.calls.specs.Calls.{by_digit, meaning, on_call};
 ghost use Rattle.calls.specs.Way.{Column};

@@ -1,5 +1,6 @@
 // Runs the worked cases of docs/RULES.md and docs/DECISIONS.md, which stand in the file `stdin`: prints each line that is
 // answered otherwise, and how many were run.
+#![tactic(auto)]
 use libc::{STDIN_FILENO, STDOUT_FILENO};
 use lines::Line;
 

@@ -1,19 +1,20 @@
 // The words of docs/RULES.md: point code and circuit number, a circuit's record, signals, commands, timers and events, what an
 // event answers, and a row of a printed table. No rule of the gateway stands here: those are in `signals`, `commands` and `step`.
+#![tactic(auto)]
 ghost use Rattle.std.specs.Prelude.{◌≡◌, ◌&&◌, ◌||◌};
 ghost use Rattle.circuit.specs.Groups.{bad_code, bad_codes, bad_group, lowest, controls};
 
 // A point code (0..16383) and a circuit number (CIC, 0..4095) are separate things: one never stands for the other. Each holds any 32-bit
 // number, so that a number which is out of range arrives here as it is and is refused.
-#[derive(Drop)]
+#[derive(Clone, Copy)]
 pub struct PointCode(pub u32);
 
-#[derive(Drop)]
+#[derive(Clone, Copy)]
 pub struct Cic(pub u32);
 
 // A circuit's record: the state by its number, and the flags 1 own block, 2 far block, 4 awaiting BLA, 8 awaiting UBA. This, what is sent, an
 // outcome and a row are what the definitions speak of; the program holds a record as two octets.
-#[derive(Drop)]
+#[derive(Clone, Copy)]
 pub struct Record {
     pub state: u8,
     pub own: bool,
@@ -23,7 +24,7 @@ pub struct Record {
 }
 
 // The signals of an unsuccessful call.
-#[derive(Drop)]
+#[derive(Clone, Copy)]
 pub enum Failure {
     Sec,
     Cgc,
@@ -37,7 +38,7 @@ pub enum Failure {
 }
 
 // A signal with its particulars: ACM has an octet, and the failures share a case.
-#[derive(Drop)]
+#[derive(Clone, Copy)]
 pub enum Signal {
     Iam,
     Acm(u8),
@@ -56,7 +57,7 @@ pub enum Signal {
 }
 
 // The type of address complete that the two lowest bits of its octet name, in their order (Q.723).
-#[derive(Drop)]
+#[derive(Clone, Copy)]
 pub enum AddressType {
     Plain,
     Charge,
@@ -64,14 +65,14 @@ pub enum AddressType {
     Payphone,
 }
 
-#[derive(Drop)]
+#[derive(Clone, Copy)]
 pub enum Charging {
     Charged,
     Free,
 }
 
 // A command with its detail: address complete says its type and whether the subscriber is free, an answer whether it is charged.
-#[derive(Drop)]
+#[derive(Clone, Copy)]
 pub enum Command {
     Seize,
     Release,
@@ -85,7 +86,7 @@ pub enum Command {
     Restart,
 }
 
-#[derive(Drop)]
+#[derive(Clone, Copy)]
 pub enum Timer {
     AddressWait,
     AnswerWait,
@@ -96,7 +97,7 @@ pub enum Timer {
 }
 
 // An event is a signal, a command or a timer, each with its own particulars.
-#[derive(Drop)]
+#[derive(Clone, Copy)]
 pub enum Event {
     Arrives(Signal),
     Ordered(Command),
@@ -104,7 +105,7 @@ pub enum Event {
 }
 
 // What an event sends: at most two signals, in order.
-#[derive(Drop)]
+#[derive(Clone, Copy)]
 pub enum Sends {
     Nothing,
     One(Signal),
@@ -112,7 +113,7 @@ pub enum Sends {
 }
 
 // What an event answers: the refusal's number, 0 where there is none; the record after it; the signals; the indication.
-#[derive(Drop)]
+#[derive(Clone, Copy)]
 pub struct Outcome {
     pub refusal: u8,
     pub after: Record,
@@ -121,7 +122,7 @@ pub struct Outcome {
 }
 
 // A row of a printed table: its first and its last state, its further condition; what is sent, the new record, the indication.
-#[derive(Drop)]
+#[derive(Clone, Copy)]
 pub struct Row(pub u8, pub u8, pub bool, pub Sends, pub Record, pub u8);
 
 pub fn both(a: bool, b: bool) -> bool

@@ -1,5 +1,6 @@
 // What the programs share: what one was started with, and the way from a file of octets to lines on standard output. A program reads and
 // writes in parts, so that the file may be of any length. Where reading or writing fails it says so on standard error, and prints no last line.
+#![tactic(auto)]
 ghost use Rattle.std.specs.Prelude.{◌≤◌, length};
 
 use libc::{STDERR_FILENO, STDOUT_FILENO};

@@ -1,4 +1,5 @@
 // Lists messages of a link from a file or standard input on standard output (docs/RULES.md, "A file of messages"); installed as tup-messages.
+#![tactic(auto)]
 fn main() {
     console::start(
         console::LISTING,

@@ -1,4 +1,5 @@
 // The numbers of docs/RULES.md by name, as tup.h has them: states, flags, indications, refusals and the headings that an event sends. No functions.
+#![tactic(auto)]
 
 // A circuit's states.
 pub const IDLE: u8 = 0;

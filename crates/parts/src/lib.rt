@@ -1,5 +1,6 @@
 // What every program shares that makes text of a file in parts: a file is a group's record and then one record after another, and its
 // text a line for each and a last line. What a record is, and its line, is for the program to say.
+#![tactic(auto)]
 ghost use Rattle.std.specs.Prelude.{◌≡◌, cond, ◌-◌, ◌≤◌, eqb, length};
 ghost use Rattle.text.specs.Writing.{Printed, in_room};
 ghost use Rattle.words.specs.Octets.{over};

@@ -1,4 +1,5 @@
 // The reader of messages on the link (docs/RULES.md, "Messages on the link"; Q.723): octets that arrived, as a message or as the refusal of one.
+#![tactic(auto)]
 ghost use Rattle.std.specs.Prelude.{◌≡◌, cond, not, ◌||◌, eqb, ◌+◌, ◌/◌, ◌%◌, ◌≤◌, ◌^◌, length, get_or, drop, take};
 ghost use Rattle.words.specs.Octets.{over};
 ghost use Rattle.formats.specs.Messages.{half, iam_heading};

@@ -1,5 +1,6 @@
 // The records of a trace (docs/RULES.md, "The trace and its replay"): how long one is, what it says, the group at the start, and a
 // reader that holds a trace and its place there.
+#![tactic(auto)]
 ghost use Rattle.std.specs.Prelude.{◌≡◌, ◌≤◌, length, drop};
 ghost use Rattle.records.specs.Records.{octets_of, two, detail_of, recorded, item, behind, refused_start, group_in};
 

@@ -1,4 +1,5 @@
 // Replays a trace from a file or standard input to standard output (docs/RULES.md, "The trace and its replay"); installed as tup-replay.
+#![tactic(auto)]
 fn main() {
     console::start(
         console::REPLAY,

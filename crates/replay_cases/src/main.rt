@@ -1,5 +1,6 @@
 // Runs the replay of the library over small traces, each in parts of every size from one octet up, and counts the runs whose text is not
 // the one that docs/RULES.md asks for ("The trace and its replay").
+#![tactic(auto)]
 ghost use Rattle.std.specs.Prelude.{◌≤◌};
 
 use libc::STDOUT_FILENO;

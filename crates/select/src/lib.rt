@@ -1,4 +1,5 @@
 // Which circuit to seize (docs/RULES.md, "Choice of a circuit"; Q.724, 2.4, method 2). Nothing is seized, and nothing lent is changed.
+#![tactic(auto)]
 ghost use Rattle.std.specs.Prelude.{◌≡◌, not, ◌%◌, ◌<◌, ◌≤◌, length};
 ghost use Rattle.layout.specs.Layout.{records_in};
 ghost use Rattle.circuit.specs.Groups.{by_parity};

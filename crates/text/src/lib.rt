@@ -1,5 +1,6 @@
 // The lines of a replay and of a list of messages, written into lent room. Each public function writes its line at the room's start and
 // answers how many octets that took; where the room has fewer than `LINE` octets, it writes nothing and answers 0.
+#![tactic(auto)]
 ghost use Rattle.std.specs.Prelude.{◌≡◌, [], ◌∷◌, ◌++◌, ◌+◌, ◌≤◌, ◌<◌, length};
 ghost use Rattle.text.specs.Numbers.{decimal, hex_digit, hex};
 ghost use Rattle.text.specs.Writing.{Printed, in_room};

@@ -1,5 +1,6 @@
 // The replay of a trace (docs/RULES.md, "The trace and its replay"): it is fed the trace in parts, and writes its lines into lent room.
 // The table is the group's, all zero before the first event.
+#![tactic(auto)]
 ghost use Rattle.std.specs.Prelude.{◌≡◌, ◌≤◌, min, length};
 ghost use Rattle.words.specs.Octets.{over};
 ghost use Rattle.parts.specs.Feed.{share_of, share_at, answer_of, fed};

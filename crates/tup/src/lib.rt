@@ -1,4 +1,6 @@
-// The entries for a host in C, on numbers and octets. Every number crosses as 32 bits and is tested inside, so that none is cut to fit.
+// The entries for a host in C, on numbers and octets, which `tup_c` exports. Every number crosses as 32 bits and is tested inside, so that none is
+// cut to fit.
+#![tactic(auto)]
 ghost use Rattle.std.specs.Prelude.{◌≡◌, ◌<◌, ◌≤◌, length};
 ghost use Rattle.std.proofs.Math.Seq.{paste};
 ghost use Rattle.codes.specs.Numbers.{event_of};
@@ -26,8 +28,7 @@ const MOST_PLACE: u64 = 0xffffffffffffff;
 
 // An event on a circuit of a group: own and far point code, the group's table of records, the circuit; the event by its kind (1 signal,
 // 2 command, 3 timer), its code and its detail. The answer is packed into one number.
-#[unsafe(no_mangle)]
-pub extern "C" fn tup_step(
+pub fn tup_step(
     own: u32,
     far: u32,
     table: &mut [u8],
@@ -61,8 +62,7 @@ fn pack_choice(s: Selected) -> u64
 }
 
 // Which circuit of a group to seize, and how many records were looked at, packed into one number. Nothing is seized.
-#[unsafe(no_mangle)]
-pub extern "C" fn tup_select(own: u32, far: u32, table: &[u8]) -> u64
+pub fn tup_select(own: u32, far: u32, table: &[u8]) -> u64
     ensures answers { result ≡ packed_choice (select_in own far table.now) }
     ensures unpacks { ChoiceUnpacked result (select_in own far table.now) }
 {
@@ -111,8 +111,7 @@ fn pack_refusal(refusal: u8, place: u64) -> u64
 
 // Reads a message from its label on, in a group of `count` circuits. The answer is the refusal and 256 times its place; where it is 0 the fields
 // go to the first 23 octets of `out`.
-#[unsafe(no_mangle)]
-pub extern "C" fn tup_read(own: u32, far: u32, count: u32, octets: &[u8], out: &mut [u8]) -> u64
+pub fn tup_read(own: u32, far: u32, count: u32, octets: &[u8], out: &mut [u8]) -> u64
     ensures answers { result ≡ (read_into own far count octets.now out.old).answer }
     ensures leaves { out.new ≡ (read_into own far count octets.now out.old).buffer }
 {
@@ -128,8 +127,7 @@ pub extern "C" fn tup_read(own: u32, far: u32, count: u32, octets: &[u8], out: &
 }
 
 // Writes a message. The answer is the refusal and 256 times the length.
-#[unsafe(no_mangle)]
-pub extern "C" fn tup_write(
+pub fn tup_write(
     own: u32,
     far: u32,
     count: u32,

@@ -1,4 +1,5 @@
 // The writer of messages on the link (docs/RULES.md, "Messages on the link"; Q.723): a message by numbers, as octets in a lent buffer.
+#![tactic(auto)]
 ghost use Rattle.std.specs.Prelude.{◌≡◌, true, false, cond, ◌+◌, ◌≤◌, length};
 ghost use Rattle.std.proofs.Math.Seq.{paste};
 ghost use Rattle.formats.specs.Format.{ACM, most};
