@@ -1,6 +1,7 @@
 // The marks of a circuit: own block, far block, awaiting BLA, awaiting UBA, as the octet of flags. What signals and commands do to them and
 // send, and which are legal. Nothing here knows of a call, or of a state but that a reset is awaited.
 #![tactic(auto)]
+
 ghost use Rattle.std.specs.Prelude.{◌≡◌, cond, ◌≤◌};
 ghost use Rattle.marks.specs.Flags.{bit, flags, own, far, bla, uba};
 ghost use Rattle.marks.specs.Way.{legal, legal_in_reset, blocked, unblocked, kept_out, reset, on_marks};
@@ -8,7 +9,7 @@ ghost use Rattle.marks.specs.Way.{legal, legal_in_reset, blocked, unblocked, kep
 use circuit::Signal;
 
 // What is done to the flags, the heading of what is sent for it, 0 for none, and whether the signal goes no further than the marks.
-#[derive(Drop)]
+#[derive(Clone, Copy)]
 pub struct Marked {
     pub flags: u8,
     pub sends: u8,
