@@ -8,8 +8,8 @@ export PREFIX DESTDIR
 
 proved := build/lib/libtup.a build/bin/tup-replay build/bin/tup-messages
 headers := $(patsubst %,build/%,$(wildcard include/*.h))
-# Directories too: a file that is gone has no time to compare, but its directory has.
-sources := crates.txt $(shell find crates -name must-fail -prune -o -print)
+# Directories too: a file that is gone has no time to compare, but its directory has. A crate's own directory changes whenever rt builds.
+sources := crates.txt $(shell find crates -mindepth 2 \( -name must-fail -o -name out \) -prune -o -print)
 
 .PHONY: all need lib demo test bench install uninstall clean
 all: lib
@@ -44,4 +44,4 @@ uninstall:
 	tools/install --remove
 
 clean:
-	rm -rf build target
+	rm -rf build crates/*/out
