@@ -7,20 +7,20 @@ ghost use Rattle.codes.specs.Numbers.{bare, arrives, signal_event, complete, ans
 use circuit::{AddressType, Charging, Command, Event, Failure, Signal, Timer};
 
 // The failure, and the signal, of a heading.
-#[derive(Drop)]
+#[derive(Clone, Copy)]
 pub enum NamedFailure {
     IsFailure(Failure),
     NoFailure,
 }
 
-#[derive(Drop)]
+#[derive(Clone, Copy)]
 pub enum Named {
     Known(Signal),
     Unknown,
 }
 
 // The event of some numbers; where there is none, that is refusal 3.
-#[derive(Drop)]
+#[derive(Clone, Copy)]
 pub enum Found {
     Is(Event),
     Missing,
