@@ -1,5 +1,6 @@
 // The numbers of docs/RULES.md for signals and events: a failure's heading and the signal of a heading; the event of a kind, a code and a detail.
 #![tactic(auto)]
+
 ghost use Rattle.std.specs.Prelude.{◌≡◌, ◌<◌};
 ghost use Rattle.codes.specs.Headings.{failure_heading, failure_of, failing, signal_of};
 ghost use Rattle.codes.specs.Numbers.{bare, arrives, signal_event, complete, answer, fail_with, command_event, timer_event, event_of};
