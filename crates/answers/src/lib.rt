@@ -1,5 +1,6 @@
 // What an event on a circuit answers, in one number: an octet to a field. It is made here, and its fields are read back here.
 #![tactic(auto)]
+
 ghost use Rattle.std.specs.Prelude.{◌≡◌, ◌/◌, ◌%◌};
 ghost use Rattle.answers.specs.Answers.{word};
 
