@@ -1,6 +1,7 @@
 // The words of docs/RULES.md: point code and circuit number, a circuit's record, signals, commands, timers and events, what an
 // event answers, and a row of a printed table. No rule of the gateway stands here: those are in `signals`, `commands` and `step`.
 #![tactic(auto)]
+
 ghost use Rattle.std.specs.Prelude.{◌≡◌, ◌&&◌, ◌||◌};
 ghost use Rattle.circuit.specs.Groups.{bad_code, bad_codes, bad_group, lowest, controls};
 

@@ -1,5 +1,6 @@
 // Octets and words of eight octets, lowest first, in a lent slice. Reads past the end give 0; writes past the end are ignored.
 #![tactic(auto)]
+
 ghost use Rattle.std.specs.Prelude.{◌≡◌, ◌+◌, ◌*◌, ◌%◌, ◌<◌, length, get_or, set};
 ghost use Rattle.words.specs.Words.{word, put, put_word};
 
