@@ -15,7 +15,7 @@ const RECORD_OCTETS: usize = 10;
 const CIRCUITS: usize = 4096;
 
 // What stands at a circuit.
-#[derive(Drop)]
+#[derive(Clone, Copy)]
 pub struct Stored {
     pub state: u8,
     pub flags: u8,
