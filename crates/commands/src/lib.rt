@@ -1,6 +1,7 @@
 // What a command of the host and a timer do to a circuit: the rows of docs/RULES.md, "Commands" and "Timers", a function each. A record is two
 // octets, its state and its flags; the answer is one number (`answers`).
 #![tactic(auto)]
+
 ghost use Rattle.std.specs.Prelude.{◌≡◌, cond, ◌&&◌, leb};
 ghost use Rattle.answers.specs.Answers.{word};
 ghost use Rattle.commands.specs.Tables.{late};
