@@ -1,6 +1,7 @@
 // Where things lie in a lent table of octets: first the counter of releases, eight octets; then a record to each circuit, ten octets each: the
 // state, the flags and the release rank of eight. Record i is circuit i; counter and ranks have their lowest octet first.
 #![tactic(auto)]
+
 ghost use Rattle.std.specs.Prelude.{◌≡◌, ◌+◌, ◌≤◌, ltb};
 ghost use Rattle.layout.specs.Way.{bad_length};
 ghost use Rattle.layout.specs.Layout.{table_octets, records_in, counter_in, allowed, stored_at, put_octets, put_counter, put_rank};

@@ -1,6 +1,6 @@
 -- What the check leaves of the proof that `layout::allowed` meets its contract.
 -- Assumes nothing.
-use Rattle.std.proofs.Common.{◌∙◌, sym, arith, ◌<◌}
+use Rattle.std.proofs.Common.{◌∙◌, sym, arith}
 use Rattle.layout.proofs.Laws.{allowed_below, allowed_in_reset, allowed_above}
 use Rattle.layout.proofs.allowed.Goals as goal
 
