@@ -1,6 +1,7 @@
 // What the reader and the writer of messages share (Q.723, "Formats and codes"; docs/RULES.md, "Messages on the link"): how long a message is
 // by its heading, which address signals are refused, and which numbers are short.
 #![tactic(auto)]
+
 ghost use Rattle.std.specs.Prelude.{◌≡◌, cond, ltb};
 ghost use Rattle.formats.specs.Octets.{bad_code, bad_codes, first_bad, above_fifteen, bad_address, besides_st, to_operator, short};
 ghost use Rattle.formats.specs.Messages.{fixed_length, listed};
