@@ -10,10 +10,8 @@ use lib.Dec.{T, eqb, eqb→eq, leb, leb→le}
 use lib.ListN.{get_or}
 use borrow.Author.Tests.{le-leb}
 use Rattle.circuit.specs.declared.Signal.{Signal}
-use Rattle.circuit.specs.declared.Signal.TheVariants.{Iam, Acm, Anc, Ann, Cbk, Clf, Ran, Rlg, Blo, Bla, Ubl, Uba, Rsc, Fail}
-use Rattle.circuit.specs.Rows.{first}
 use Rattle.circuit.specs.Every.{implies, each_below}
-use Rattle.circuit.proofs.Every.{left, right, then, at_below, each_bool, at_bool}
+use Rattle.circuit.proofs.Every.{left, right, then, at_below}
 use Rattle.calls.specs.declared.Call.{Call}
 use Rattle.signals.specs.Table.{on_signal}
 use Rattle.calls.specs.Calls.{call, call_part, unmarked, meaning, is_number, on_call}

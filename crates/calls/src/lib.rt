@@ -1,6 +1,7 @@
 // The call part of the rows for signals (docs/RULES.md, "Signals that arrive") as one constant table: state, role and signal to the new
 // state, the signal sent and the indication. Block and unblock are in `marks`.
 #![tactic(auto)]
+
 ghost use Rattle.std.specs.Prelude.{◌≡◌, cond, ◌<◌, ◌≤◌};
 ghost use Rattle.calls.specs.Calls.{by_digit, meaning, on_call};
 ghost use Rattle.calls.specs.Way.{Column};
@@ -8,7 +9,7 @@ ghost use Rattle.calls.specs.Way.{Column};
 use circuit::Signal;
 
 // What a signal does to the call: the new state, the heading of what is sent, 0 for nothing, and the indication.
-#[derive(Drop)]
+#[derive(Clone, Copy)]
 pub struct Call {
     pub state: u8,
     pub sends: u8,

@@ -1,0 +1,7 @@
+-- What the check leaves of the proof that `calls::entry` meets its contract.
+-- Assumes nothing.
+use Rattle.calls.proofs.Rule.{at_place}
+use Rattle.calls.proofs.entry.Goals as goal
+
+pub returns : goal.returns
+returns c = rw c.role.ensures.0 (at_place c.args.con c.args.state c.args.s c.column-entries.result c.requires c.column-entries.ensures)
