@@ -1,5 +1,6 @@
 // The reader of messages on the link (docs/RULES.md, "Messages on the link"; Q.723): octets that arrived, as a message or as the refusal of one.
 #![tactic(auto)]
+
 ghost use Rattle.std.specs.Prelude.{◌≡◌, cond, not, ◌||◌, eqb, ◌+◌, ◌/◌, ◌%◌, ◌≤◌, ◌^◌, length, get_or, drop, take};
 ghost use Rattle.words.specs.Octets.{over};
 ghost use Rattle.formats.specs.Messages.{half, iam_heading};
@@ -18,7 +19,7 @@ const SPARE_BITS: u8 = 64;
 
 // A message by numbers, or the refusal of one with its place and every other field 0: circuit, heading, ACM's octet, IAM's category, indicators and count,
 // and its address signals. A field that the heading does not have is 0, and so is each code from the count on.
-#[derive(Drop)]
+#[derive(Clone, Copy)]
 pub struct Fields {
     pub refusal: u8,
     pub place: u64,
@@ -33,7 +34,7 @@ pub struct Fields {
 
 // What a message says. An enum that holds an array is not among the forms that are proved, so the address stands beside the signal and not in
 // it, and so do the other fields that only an IAM has.
-#[derive(Drop)]
+#[derive(Clone, Copy)]
 pub struct Message {
     pub circuit: Cic,
     pub signal: Named,
@@ -44,7 +45,7 @@ pub struct Message {
 }
 
 // The refusal's number and its place, both 0 where there is none, and the message, whose signal is unknown where it is refused.
-#[derive(Drop)]
+#[derive(Clone, Copy)]
 pub struct Reading {
     pub refusal: u8,
     pub place: u64,
