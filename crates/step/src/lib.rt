@@ -1,5 +1,6 @@
 // One event on one circuit, by value: its record as two octets, behind refusal 12. Calls and marks are put together here.
 #![tactic(auto)]
+
 ghost use Rattle.std.specs.Prelude.{◌≡◌};
 ghost use Rattle.codes.specs.Numbers.{event_of};
 ghost use Rattle.answers.specs.Answers.{packed, Unpacked};
