@@ -1,6 +1,7 @@
 // The lines of a replay and of a list of messages, written into lent room. Each public function writes its line at the room's start and
 // answers how many octets that took; where the room has fewer than `LINE` octets, it writes nothing and answers 0.
 #![tactic(auto)]
+
 ghost use Rattle.std.specs.Prelude.{◌≡◌, [], ◌∷◌, ◌++◌, ◌+◌, ◌≤◌, ◌<◌, length};
 ghost use Rattle.text.specs.Numbers.{decimal, hex_digit, hex};
 ghost use Rattle.text.specs.Writing.{Printed, in_room};
@@ -14,7 +15,7 @@ pub const LINE: usize = 132;
 const MOST_SIGNALS: usize = 15;
 
 // What an event's line says. A heading of 0 stands for none.
-#[derive(Drop)]
+#[derive(Clone, Copy)]
 pub struct Line {
     pub ordinal: u64,
     pub circuit: u16,
@@ -140,7 +141,7 @@ fn whole_line(room: &mut [u8], l: Line) -> usize
 fn word_and_number(room: &mut [u8], text: &[u8], n: u64) -> usize
     requires { length text.now + 21 ≤ length room.old }
     ensures wrote { Wrote room.old 0 (text.now ++ (decimal n ++ (10 ∷ []))) result room.new }
-    ensures* result_in_bounds { do ⌜ result ≤ length text.now + 21 ⌝ }
+    ensures upper_bound { result ≤ length text.now + 21 }
 {
     let next = word(room, 0, text);
     let next = digits(room, next, n);

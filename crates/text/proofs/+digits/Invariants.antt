@@ -1,0 +1,6 @@
+-- Why `text::digits` ends.
+-- Assumes nothing.
+use Rattle.text.proofs.+digits.Given as goal
+
+abbrev pub decreases-digits : goal.decreases-digits
+decreases-digits l = l.n

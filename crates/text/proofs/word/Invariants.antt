@@ -1,0 +1,11 @@
+-- What holds in the loops of `text::word`.
+-- Assumes nothing.
+use Rattle.std.proofs.Common.{length, take, ◌-◌, ◌≡◌, ◌≤◌}
+use lib.Seq.{sets}
+use Rattle.text.proofs.word.Given as goal
+
+abbrev pub invariant-loop-i : goal.invariant-loop-i
+invariant-loop-i l = record { within : l.i ≤ length l.text; so_far : l.room ≡ sets l.initial.room l.at (take l.i l.text) }
+
+abbrev pub decreases-loop-i : goal.decreases-loop-i
+decreases-loop-i l = length l.text - l.i
