@@ -1,4 +1,4 @@
--- Why `text::digits` ends.
+-- What the check leaves of the proof that `text::digits` meets its contract.
 -- Assumes nothing.
 use Rattle.text.proofs.+digits.Given as goal
 

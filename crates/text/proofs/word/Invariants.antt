@@ -1,4 +1,4 @@
--- What holds in the loops of `text::word`.
+-- What the check leaves of the proof that `text::word` meets its contract.
 -- Assumes nothing.
 use Rattle.std.proofs.Common.{length, take, ◌-◌, ◌≡◌, ◌≤◌}
 use lib.Seq.{sets}
