@@ -1,5 +1,6 @@
 // Which circuit to seize (docs/RULES.md, "Choice of a circuit"; Q.724, 2.4, method 2). Nothing is seized, and nothing lent is changed.
 #![tactic(auto)]
+
 ghost use Rattle.std.specs.Prelude.{◌≡◌, not, ◌%◌, ◌<◌, ◌≤◌, length};
 ghost use Rattle.layout.specs.Layout.{records_in};
 ghost use Rattle.circuit.specs.Groups.{by_parity};
@@ -11,7 +12,7 @@ use circuit::{Cic, PointCode};
 use layout::Stored;
 
 // What selection answers: the refusal's number, 0 where there is none; the circuit; how many records were looked at.
-#[derive(Drop)]
+#[derive(Clone, Copy)]
 pub struct Selected {
     pub refusal: u8,
     pub cic: Cic,
