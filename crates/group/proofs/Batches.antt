@@ -137,4 +137,5 @@ module _ (own far : ℕ) where
 pub a_run : {own far : ℕ} {first table : List ℕ} → Follows own far first table → (xs : List Handed) → Follows own far first (after own far table xs)
 unfolding after
 a_run f [] = f
-a_run f (x ∷ xs) = a_run (Follows.next f x.cic x.event) xs
+a_run {own = own} {far = far} {first = first} {table = table} f (x ∷ xs) =
+    a_run {table = (Rattle.group.specs.Table.step_in own far table x.cic x.event).table} (Follows.next f x.cic x.event) xs
