@@ -3,7 +3,7 @@
 use mathlib.Core.Path.{◌≡◌, refl, sym, ap, ◌∙◌, subst, subst₂}
 use mathlib.Core.Bool.{Bool, true, false, cond, not, ◌&&◌, ◌||◌, true≢false, false≢true}
 use mathlib.Core.List.{List, [], ◌∷◌, ◌++◌}
-use Prim.Native.Nat.{ℕ, ◌≤◌}
+use Prim.Native.Nat.{ℕ}
 use borrow.Author.Tests.{eq-eqb, lt-leb}
 use lib.Dec.{T, eqb, ltb, lit≤}
 use lib.ListN.{length}
@@ -29,7 +29,7 @@ use Rattle.reader.specs.declared.Fields.{Fields}
 use Rattle.reader.specs.Places.{cic_in}
 use Rattle.reader.specs.Reading.{fields_of, reading}
 use Rattle.ends.specs.Machine.{When.losing_all, When.never, none, silence, given, Happening, turn}
-use Rattle.ends.specs.Ends.{end, idle, seen, Agree, unheard as never_heard}
+use Rattle.ends.specs.Ends.{end, idle, Agree, unheard as never_heard}
 use Rattle.ends.proofs.Machine.{always, mirror}
 use Rattle.ends.proofs.Standing.{Holds, changed, idles, restarts}
 use Rattle.ends.proofs.Claim.{agreed}
