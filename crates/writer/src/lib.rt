@@ -1,5 +1,6 @@
 // The writer of messages on the link (docs/RULES.md, "Messages on the link"; Q.723): a message by numbers, as octets in a lent buffer.
 #![tactic(auto)]
+
 ghost use Rattle.std.specs.Prelude.{◌≡◌, true, false, cond, ◌+◌, ◌≤◌, length};
 ghost use Rattle.std.proofs.Math.Seq.{paste};
 ghost use Rattle.formats.specs.Format.{ACM, most};
@@ -24,7 +25,7 @@ const SIX_BITS: u32 = 63;
 const INDICATORS: u32 = 2047;
 
 // The refusal's number, 0 where there is none, and how many octets the message has, 0 where it is refused.
-#[derive(Drop)]
+#[derive(Clone, Copy)]
 pub struct Written {
     pub refusal: u8,
     pub length: u8,
