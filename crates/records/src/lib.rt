@@ -1,13 +1,14 @@
 // The records of a trace (docs/RULES.md, "The trace and its replay"): how long one is, what it says, the group at the start, and a
 // reader that holds a trace and its place there.
 #![tactic(auto)]
+
 ghost use Rattle.std.specs.Prelude.{◌≡◌, ◌≤◌, length, drop};
 ghost use Rattle.records.specs.Records.{octets_of, two, detail_of, recorded, item, behind, refused_start, group_in};
 
 use circuit::PointCode;
 
 // What an event's record says: kind 1 a signal and its heading, 2 a command, 3 a timer, whose detail is 0.
-#[derive(Drop)]
+#[derive(Clone, Copy)]
 pub struct Recorded {
     pub kind: u8,
     pub circuit: u16,
@@ -17,7 +18,7 @@ pub struct Recorded {
 
 // What stands at a place of a trace, behind the group: an event's record; an octet that starts none; a record's start and then the
 // end; nothing more.
-#[derive(Drop)]
+#[derive(Clone, Copy)]
 pub enum Item {
     Event(Recorded),
     NoEvent,
@@ -26,7 +27,7 @@ pub enum Item {
 }
 
 // What the group's record says.
-#[derive(Drop)]
+#[derive(Clone, Copy)]
 pub struct Group {
     pub own: PointCode,
     pub far: PointCode,
@@ -135,7 +136,7 @@ pub fn behind_at(s: &[u8], at: usize) -> usize
 
 // A trace and the place of its next record. Its functions are thin: what stands at a place, and where the next record does, are for
 // `item_at` and `behind_at` to say.
-#[derive(Drop)]
+#[derive(Clone, Copy)]
 pub struct Reader<'a> {
     pub src: &'a [u8],
     pub at: usize,
