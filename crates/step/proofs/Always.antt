@@ -20,7 +20,7 @@ use Rattle.codes.specs.declared.Found.{Found}
 use Rattle.codes.specs.declared.Found.TheVariants.{Is, Missing}
 use Rattle.step.specs.Step.{step, step_found, is_signal, sent}
 use Rattle.step.specs.Frees.{freed, frees, frees_found}
-use Rattle.step.specs.Refusals.{refusal}
+use Rattle.step.specs.Refusals.{refusal, refusal_found}
 
 -- the claims of an event at a role and a record
 abbrev stays_valid : Bool → Record → Event → Bool
@@ -95,6 +95,15 @@ refuses c r e v = eqb→eq _ _ (left (refuses_right c r e) _ (right (stays_valid
 -- exactly the events of the list take a record from another state to idle
 pub frees_listed : (c : Bool) (r : Record) (e : Event) → T (valid r) → freed r.state (step c r e) ≡ frees c r.state e
 frees_listed c r e v = alike_same _ _ (left (frees_right c r e) _ (right (refuses_right c r e) _ (right (stays_valid c r e) _ (holds e c r v))))
+
+-- numbers that are no event are refused with 3, and on a record that is not valid with 12
+pub refuses_missing : (c : Bool) (r : Record) → (step_found c r Missing).refusal ≡ refusal_found r Missing
+unfolding step_found
+refuses_missing c r = go (valid r)
+  where
+    go : (b : Bool) → (cond b (refused 3 r) (refused 12 r)).refusal ≡ cond (not b) 12 3
+    go true = refl
+    go false = refl
 
 -- a record that stays as it is frees nothing
 staying : (idle : Bool) → (not idle && idle) ≡ false

@@ -20,7 +20,7 @@ use Rattle.commands.specs.Tables.{command_table, command_refusal, timer_table}
 use Rattle.step.specs.Step.{by_tables, step, step_found}
 use Rattle.circuit.specs.Refusals.{refuse, first_rule}
 use Rattle.step.specs.Refusals.{allowed, runs, seizes_blocked, found_rules, refusal, refusal_found}
-use Rattle.step.proofs.Always.{refuses}
+use Rattle.step.proofs.Always.{refuses, refuses_missing}
 
 -- the answer is a refusal of this record, or it is accepted
 abbrev pub Keeps : Record → Outcome → Type 0
@@ -76,11 +76,7 @@ refuses_found c r (Is e) = go (valid r) (λ t. unfold step in refuses c r e t)
     go : (b : Bool) → (T b → (cond b (by_tables c r e) (refused 12 r)).refusal ≡ refusal r e) → (cond b (by_tables c r e) (refused 12 r)).refusal ≡ cond (not b) 12 (refusal r e)
     go true h = h tt
     go false h = refl
-refuses_found c r Missing = go (valid r)
-  where
-    go : (b : Bool) → (cond b (refused 3 r) (refused 12 r)).refusal ≡ cond (not b) 12 3
-    go true = refl
-    go false = refl
+refuses_found c r Missing = refuses_missing c r
 
 -- an event is accepted on a valid record only
 pub accepted_valid : (r : Record) (f : Found) → refusal_found r f ≡ 0 → T (valid r)
