@@ -10,7 +10,7 @@ use lib.ListN.{length}
 use borrow.Author.Tests.{eqb-true, eqb-false, eq-eqb, ne_eqb}
 use Rattle.layout.specs.Layout.{held_at}
 use Rattle.group.specs.Batches.{Handed, Answered, given, after, answered, only, events_of, answers_of, OnceEach, No13}
-use Rattle.group.specs.Runs.{Follows, Follows.next}
+use Rattle.group.specs.Runs.{Follows}
 use Rattle.group.proofs.Meets.{Meets, itself, elsewhere, answers_as, there}
 
 abbrev cic_of : Handed → ℕ
@@ -138,4 +138,4 @@ pub a_run : {own far : ℕ} {first table : List ℕ} → Follows own far first t
 unfolding after
 a_run f [] = f
 a_run {own = own} {far = far} {first = first} {table = table} f (x ∷ xs) =
-    a_run {table = (Rattle.group.specs.Table.step_in own far table x.cic x.event).table} (Follows.next f x.cic x.event) xs
+    a_run {table = (given own far table x).table} (Follows.next f x.cic x.event) xs

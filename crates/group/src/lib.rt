@@ -1,6 +1,7 @@
 // A group of circuits whose records lie in a lent table: an event on one of its circuits, with every refusal of docs/RULES.md. The answer is one
 // number (`answers`).
 #![tactic(auto)]
+
 ghost use Rattle.std.specs.Prelude.{◌≡◌, ◌<◌, length};
 ghost use Rattle.codes.specs.Numbers.{event_of};
 ghost use Rattle.answers.specs.Answers.{packed, Unpacked};

@@ -12,26 +12,26 @@ pub returns-then-bad_codes : goal.returns-then-bad_codes
 returns-then-bad_codes c =
     let a = c.args in let event = event_of a.kind a.code a.detail in
     let e = nothing 1 c.refused.result (step_in a.own.0 a.far.0 a.table.now a.cic.0 event) a.table.now _ (omega arith)
-        (no_group a.own.0 a.far.0 a.table.now a.cic.0 event (bad_by_codes (bad_codes a.own.0 a.far.0) (length a.table.now) (sym c.if-bad_codes.ensures)))
-        c.refused.ensures refl in
+    (no_group a.own.0 a.far.0 a.table.now a.cic.0 event (bad_by_codes (bad_codes a.own.0 a.far.0) (length a.table.now) (sym c.if-bad_codes.ensures)))
+    c.refused.ensures refl in
     record { packs = e.0; unpacks = e.1.0; leaves = e.1.1 }
 
 pub returns-then-bad_length : goal.returns-then-bad_length
 returns-then-bad_length c =
     let a = c.args in let event = event_of a.kind a.code a.detail in
     let e = nothing 1 c.refused-then-bad_length.result (step_in a.own.0 a.far.0 a.table.now a.cic.0 event) a.table.now _ (omega arith)
-        (no_group a.own.0 a.far.0 a.table.now a.cic.0 event (bad_by_length (bad_codes a.own.0 a.far.0) (length a.table.now) (sym c.if-bad_length.ensures)))
-        c.refused-then-bad_length.ensures refl in
+    (no_group a.own.0 a.far.0 a.table.now a.cic.0 event (bad_by_length (bad_codes a.own.0 a.far.0) (length a.table.now) (sym c.if-bad_length.ensures)))
+    c.refused-then-bad_length.ensures refl in
     record { packs = e.0; unpacks = e.1.0; leaves = e.1.1 }
 
 pub returns-then-ends_before : goal.returns-then-ends_before
 returns-then-ends_before c =
     let a = c.args in let event = event_of a.kind a.code a.detail in let whole = sym c.if-bad_length.ensures in
     let e = nothing 2 c.refused-then-ends_before.result (step_in a.own.0 a.far.0 a.table.now a.cic.0 event) a.table.now _ (omega arith)
-        (no_circuit a.own.0 a.far.0 a.table.now a.cic.0 event
-        (good_group (bad_codes a.own.0 a.far.0) (length a.table.now) (sym c.if-bad_codes.ensures) whole)
-        (has_not (length a.table.now) a.cic.0 whole (sym c.if-ends_before.ensures)))
-        c.refused-then-ends_before.ensures refl in
+    (no_circuit a.own.0 a.far.0 a.table.now a.cic.0 event
+    (good_group (bad_codes a.own.0 a.far.0) (length a.table.now) (sym c.if-bad_codes.ensures) whole)
+    (has_not (length a.table.now) a.cic.0 whole (sym c.if-ends_before.ensures)))
+    c.refused-then-ends_before.ensures refl in
     record { packs = e.0; unpacks = e.1.0; leaves = e.1.1 }
 
 pub on_circuit-requires : goal.on_circuit-requires
