@@ -1,6 +1,7 @@
 // The entries for a host in C, on numbers and octets, which `tup_c` exports. Every number crosses as 32 bits and is tested inside, so that none is
 // cut to fit.
 #![tactic(auto)]
+
 ghost use Rattle.std.specs.Prelude.{◌≡◌, ◌<◌, ◌≤◌, length};
 ghost use Rattle.std.proofs.Math.Seq.{paste};
 ghost use Rattle.codes.specs.Numbers.{event_of};

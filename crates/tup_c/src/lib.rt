@@ -1,5 +1,6 @@
 // The static library that a host in C links: each entry calls the function of its name in `tup` and promises the same.
 #![tactic(auto)]
+
 ghost use Rattle.std.specs.Prelude.{◌≡◌};
 ghost use Rattle.codes.specs.Numbers.{event_of};
 ghost use Rattle.answers.specs.Answers.{packed, Unpacked};
@@ -62,5 +63,7 @@ pub extern "C" fn tup_write(
     ensures answers { result ≡ (write_from own far count (said cic heading acm category indicators address.now) out.old).answer }
     ensures leaves { out.new ≡ (write_from own far count (said cic heading acm category indicators address.now) out.old).buffer }
 {
-    tup::tup_write(own, far, count, cic, heading, acm, category, indicators, address, out)
+    tup::tup_write(
+        own, far, count, cic, heading, acm, category, indicators, address, out,
+    )
 }
