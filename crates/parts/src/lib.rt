@@ -1,6 +1,7 @@
 // What every program shares that makes text of a file in parts: a file is a group's record and then one record after another, and its
 // text a line for each and a last line. What a record is, and its line, is for the program to say.
 #![tactic(auto)]
+
 ghost use Rattle.std.specs.Prelude.{◌≡◌, cond, ◌-◌, ◌≤◌, eqb, length};
 ghost use Rattle.text.specs.Writing.{Printed, in_room};
 ghost use Rattle.words.specs.Octets.{over};
@@ -15,7 +16,7 @@ use circuit::PointCode;
 const LAST: u64 = words::LARGEST;
 
 // A file behind its group: the two codes, how many circuits there are, and the next record's ordinal.
-#[derive(Drop)]
+#[derive(Clone, Copy)]
 pub struct Running {
     pub own: PointCode,
     pub far: PointCode,
@@ -25,7 +26,7 @@ pub struct Running {
 
 // Where the text of a file stands: before its group, at a group that is refused, among the records, or where it was cut, with the next
 // record's ordinal.
-#[derive(Drop)]
+#[derive(Clone, Copy)]
 pub enum Stage {
     Start,
     Bad,
@@ -34,14 +35,14 @@ pub enum Stage {
 }
 
 // How many octets one record took and how many its line has; none where no record could be taken.
-#[derive(Drop)]
+#[derive(Clone, Copy)]
 pub struct Turn {
     pub taken: usize,
     pub written: usize,
 }
 
 // How many octets of the part were taken and how many of the room written, and where the text stands then.
-#[derive(Drop)]
+#[derive(Clone, Copy)]
 pub struct Fed {
     pub taken: usize,
     pub written: usize,
