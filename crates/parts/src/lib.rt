@@ -142,6 +142,7 @@ fn before(next: u64) -> u64
     if next == 0 { 0 } else { next - 1 }
 }
 
+#[tactic(auto, unfolding(crate::specs::Feed::last_line))]
 fn last_of(r: Running, rest: &[u8], room: &mut [u8]) -> usize
     ensures printed { Printed room.old (in_room room.old (last_line (Stage.Runs r) rest.now)) result room.new }
     ensures upper_bound { result ≤ length room.old }
