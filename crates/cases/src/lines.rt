@@ -1,7 +1,7 @@
 // Reading the table of cases an octet at a time: numbers apart by spaces, hexadecimal after an x; `#` starts a remark that ends with its line.
 
 // What has been read of the line: its numbers so far, the number that is being read and its base (0: none is), whether it is a remark.
-#[derive(Drop)]
+#[derive(Clone, Copy)]
 pub(crate) struct Line {
     pub fields: [u32; 48],
     pub count: usize,

@@ -1,8 +1,12 @@
 // Runs the worked cases of docs/RULES.md and docs/DECISIONS.md, which stand in the file `stdin`: prints each line that is
 // answered otherwise, and how many were run.
 #![tactic(auto)]
-use libc::{STDIN_FILENO, STDOUT_FILENO};
+
+ghost use Rattle.std.specs.Prelude.{◌≤◌, IfOk, length};
+
 use lines::Line;
+use std::io;
+use std::io::Read;
 
 mod choices; // choices.rt: the cases of selection
 mod lines; // lines.rt: reading the table of cases
@@ -36,14 +40,12 @@ fn right(line: Line) -> bool {
     }
 }
 
-fn report(ordinal: u64) {
-    io::write_all(STDOUT_FILENO, b"line ");
-    io::print_decimal(STDOUT_FILENO, ordinal);
-    io::write_all(STDOUT_FILENO, b" is answered otherwise\n");
+fn report(rt: &impl Print, ordinal: u64) -> io::Result<()> {
+    println!(rt; "line {ordinal} is answered otherwise")
 }
 
 // How far the table has been read: the line that is being read and its ordinal, the cases run, and those that were answered otherwise.
-#[derive(Drop)]
+#[derive(Clone, Copy)]
 struct Tally {
     line: Line,
     ordinal: u64,
@@ -52,50 +54,50 @@ struct Tally {
 }
 
 fn next(n: u64) -> u64 {
-    std::num::wrapping_add_u64(n, 1)
+    n.wrapping_add(1)
 }
 
 // At the end of a line: its case is run, if it has one.
-fn ended(t: Tally) -> Tally {
+fn ended(rt: &impl Print, t: Tally) -> io::Result<Tally> {
     let line = lines::ended(t.line);
     let ordinal = next(t.ordinal);
     let empty = lines::empty();
     if line.count == 0 {
-        return Tally {
+        return Ok(Tally {
             line: empty,
             ordinal: ordinal,
             cases: t.cases,
             wrong: t.wrong,
-        };
+        });
     }
     let cases = next(t.cases);
     let mut wrong = t.wrong;
     if !right(line) {
-        report(ordinal);
+        report(rt, ordinal)?;
         wrong = next(wrong);
     }
-    Tally {
+    Ok(Tally {
         line: empty,
         ordinal: ordinal,
         cases: cases,
         wrong: wrong,
-    }
+    })
 }
 
-fn read(t: Tally, byte: u8) -> Tally {
+fn read(rt: &impl Print, t: Tally, byte: u8) -> io::Result<Tally> {
     if byte == b'\n' {
-        return ended(t);
+        return ended(rt, t);
     }
     let line = lines::read(t.line, byte);
-    Tally {
+    Ok(Tally {
         line: line,
         ordinal: t.ordinal,
         cases: t.cases,
         wrong: t.wrong,
-    }
+    })
 }
 
-fn run(text: &[u8]) -> Tally {
+fn run(rt: &impl Print, text: &[u8]) -> io::Result<Tally> {
     let empty = lines::empty();
     let mut t = Tally {
         line: empty,
@@ -103,20 +105,32 @@ fn run(text: &[u8]) -> Tally {
         cases: 0,
         wrong: 0,
     };
-    let mut i = 0;
-    while i < text.len() {
-        t = read(t, text[i]);
-        i += 1;
+    for byte in text {
+        t = read(rt, t, *byte)?;
     }
-    t
+    Ok(t)
 }
 
-fn main() {
-    let mut text = io::large_buffer();
-    let n = io::read_full(STDIN_FILENO, &mut text);
-    let t = run(&text[..n]);
-    io::print_decimal(STDOUT_FILENO, t.cases);
-    io::write_all(STDOUT_FILENO, b" cases, ");
-    io::print_decimal(STDOUT_FILENO, t.wrong);
-    io::write_all(STDOUT_FILENO, b" wrong\n");
+// Reads until the space is full or the input ends, and answers how many octets there are.
+fn read_full(input: &mut impl Read, space: &mut [u8]) -> io::Result<usize>
+    ensures { IfOk result (λ n. n ≤ length space.new) }
+{
+    let mut have = 0;
+    while have < space.len() {
+        let more = input.read(&mut space[have..])?;
+        if more == 0 {
+            return Ok(have);
+        }
+        have += more;
+    }
+    Ok(have)
+}
+
+fn main(rt: HostRuntime) -> io::Result<()> {
+    let mut text = [0u8; 65536];
+    let n = read_full(&mut rt.stdin(), &mut text)?;
+    let t = run(&rt, &text[..n])?;
+    let cases = t.cases;
+    let wrong = t.wrong;
+    println!(rt; "{cases} cases, {wrong} wrong")
 }

@@ -5,7 +5,7 @@ use super::tables;
 use super::tables::octet;
 
 // A table as a case has it: the counter of releases, a circuit's record from the place `at` on, and one octet everywhere beside these.
-#[derive(Drop)]
+#[derive(Clone, Copy)]
 struct Laid {
     counter: u64,
     at: usize,
@@ -69,7 +69,7 @@ fn after(f: [u32; 48]) -> Laid {
         return t;
     }
     let frees = f[6] != 0 && f[12] == 0;
-    let next = std::num::wrapping_add_u64(t.counter, 1);
+    let next = t.counter.wrapping_add(1);
     Laid {
         counter: if frees { next } else { t.counter },
         at: t.at,
