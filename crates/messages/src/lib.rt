@@ -1,6 +1,7 @@
 // A file of messages as they arrived on a link (docs/RULES.md, "A file of messages"), made into lines: it is fed in parts, and a line
 // for each message is written into lent room.
 #![tactic(auto)]
+
 ghost use Rattle.std.specs.Prelude.{◌≡◌, ◌≤◌, length};
 ghost use Rattle.words.specs.Octets.{over};
 ghost use Rattle.text.specs.Writing.{Printed, in_room};
