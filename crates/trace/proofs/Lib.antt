@@ -2,4 +2,3 @@ pub mod Events
 pub mod Turns
 pub mod Loop
 pub mod Cases
-pub mod Relent

@@ -1,6 +1,7 @@
 // The replay of a trace (docs/RULES.md, "The trace and its replay"): it is fed the trace in parts, and writes its lines into lent room.
 // The table is the group's, all zero before the first event.
 #![tactic(auto)]
+
 ghost use Rattle.std.specs.Prelude.{◌≡◌, ◌≤◌, min, length};
 ghost use Rattle.words.specs.Octets.{over};
 ghost use Rattle.parts.specs.Feed.{share_of, share_at, answer_of, fed};
@@ -14,7 +15,7 @@ use records::{Item, Recorded};
 use text::Line;
 
 // Where the run of events in a part stands: the replay, how many octets of the room are written, and whether no further event can be taken.
-#[derive(Drop)]
+#[derive(Clone, Copy)]
 pub struct Going {
     pub here: Running,
     pub written: usize,
