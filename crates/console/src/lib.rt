@@ -1,12 +1,15 @@
 // What the programs share: what one was started with, and the way from a file of octets to lines on standard output. A program reads and
 // writes in parts, so that the file may be of any length. Where reading or writing fails it says so on standard error, and prints no last line.
 #![tactic(auto)]
+
 ghost use Rattle.std.specs.Prelude.{◌≤◌, length};
 
-use libc::{STDERR_FILENO, STDOUT_FILENO};
 use parts::{Fed, Stage};
+use std::io;
+use std::io::Read;
 
 mod arguments; // arguments.rt: what the program was started with
+mod said; // said.rt: what is wrong, on standard error
 mod vocabulary; // vocabulary.rt: the words for the numbers
 mod wording; // wording.rt: the lines with those words
 
@@ -22,16 +25,15 @@ const READ: u8 = 1;
 
 const FAILED: u8 = 2;
 
-// What is to be done, the descriptor that the file is read from, and whether the lines are written with words for numbers.
-#[derive(Drop)]
+// What is to be done, and whether the lines are written with words for numbers.
+#[derive(Clone, Copy)]
 struct Job {
     what: u8,
-    input: i32,
     names: bool,
 }
 
 // Where the text stands, which octets of the buffer are read and not yet taken, and whether to go on.
-#[derive(Drop)]
+#[derive(Clone, Copy)]
 struct Progress {
     stage: Stage,
     at: usize,
@@ -48,28 +50,28 @@ fn stopped(stage: Stage) -> Progress {
     }
 }
 
-fn refused(name: &[u8], stage: Stage, why: &[u8]) -> Progress {
-    io::write_all(STDERR_FILENO, name);
-    io::write_all(STDERR_FILENO, why);
+fn refused(err: &impl Print, name: &[u8], stage: Stage, why: &[u8]) -> Progress {
+    said::say(err, name);
+    said::say(err, why);
     stopped(stage)
 }
 
 // A call of the system failed: the system's own reason is said too.
-fn failed(name: &[u8], what: &[u8]) {
-    io::write_all(STDERR_FILENO, name);
-    os::fail(what);
+fn failed(err: &impl Print, name: &[u8], what: &[u8], e: &io::Error) {
+    said::say(err, name);
+    said::failed(err, what, e);
 }
 
 // Writes whole lines in the form that was asked for: a replay's columns are ordinal, circuit, refusal, state, flags, indication and headings,
 // those of a list ordinal, refusal, place, circuit, heading and fields.
-fn write(job: Job, lines: &[u8]) -> bool {
+fn write(out: &impl Print, job: Job, lines: &[u8]) -> io::Result<()> {
     if !job.names {
-        return io::write_all(STDOUT_FILENO, lines);
+        return out.write_all(lines);
     }
     if job.what == LISTING {
-        return wording::write(b".r..h.", lines);
+        return wording::write(out, b".r..h.", lines);
     }
-    wording::write(b"..rsfih", lines)
+    wording::write(out, b"..rsfih", lines)
 }
 
 fn feed(what: u8, stage: Stage, table: &mut [u8], part: &[u8], room: &mut [u8]) -> Fed
@@ -83,6 +85,8 @@ fn feed(what: u8, stage: Stage, table: &mut [u8], part: &[u8], room: &mut [u8]) 
 
 // Takes what can be taken of the octets that are there, and writes the lines.
 fn take(
+    out: &impl Print,
+    err: &impl Print,
     name: &[u8],
     job: Job,
     p: Progress,
@@ -95,7 +99,7 @@ fn take(
     let have = p.have;
     let octets = trace::table_octets(stage);
     if table.len() < octets || have < at || buffer.len() < have {
-        return refused(name, stage, b": out of place\n");
+        return refused(err, name, stage, b": out of place\n");
     }
     let fed = feed(
         job.what,
@@ -106,8 +110,8 @@ fn take(
     );
     let next = at + fed.taken;
     let written = fed.written;
-    if !write(job, &room[..written]) {
-        failed(name, b": cannot write");
+    if let Err(e) = write(out, job, &room[..written]) {
+        failed(err, name, b": cannot write", &e);
         return stopped(stage);
     }
     let after = fed.stage;
@@ -121,8 +125,9 @@ fn take(
 
 // Reads more behind what is not taken yet. A buffer that is full of what cannot be taken is that of a text with no further ordinal.
 fn read(
+    err: &impl Print,
+    input: &mut impl Read,
     name: &[u8],
-    input: i32,
     stage: Stage,
     at: usize,
     have: usize,
@@ -130,23 +135,26 @@ fn read(
 ) -> Progress {
     let kept = parts::keep(buffer, at, have);
     if buffer.len() <= kept {
-        return refused(name, stage, b": too many records\n");
+        return refused(err, name, stage, b": too many records\n");
     }
-    let got = libc::read(input, &mut buffer[kept..]);
-    if got < 0 {
-        failed(name, b": cannot read");
-        return stopped(stage);
-    }
-    let more = io::count(got, &buffer[kept..]);
-    Progress {
-        stage: stage,
-        at: 0,
-        have: kept + more,
-        status: if more == 0 { READ } else { GOING },
+    match input.read(&mut buffer[kept..]) {
+        Ok(more) => Progress {
+            stage: stage,
+            at: 0,
+            have: kept + more,
+            status: if more == 0 { READ } else { GOING },
+        },
+        Err(e) => {
+            failed(err, name, b": cannot read", &e);
+            stopped(stage)
+        }
     }
 }
 
 fn turn(
+    out: &impl Print,
+    err: &impl Print,
+    input: &mut impl Read,
     name: &[u8],
     job: Job,
     p: Progress,
@@ -154,7 +162,7 @@ fn turn(
     buffer: &mut [u8],
     room: &mut [u8],
 ) -> Progress {
-    let q = take(name, job, p, table, buffer, room);
+    let q = take(out, err, name, job, p, table, buffer, room);
     if q.status != GOING || p.at < q.at {
         return q;
     }
@@ -167,27 +175,34 @@ fn turn(
             status: READ,
         };
     }
-    read(name, job.input, after, q.at, q.have, buffer)
+    read(err, input, name, after, q.at, q.have, buffer)
 }
 
 // A proved loop ends, and nothing says that a file does, so the turns are counted down from a number that no run uses up.
-fn turns(name: &[u8], job: Job, table: &mut [u8], buffer: &mut [u8], room: &mut [u8]) -> Progress {
+fn turns(
+    out: &impl Print,
+    err: &impl Print,
+    input: &mut impl Read,
+    name: &[u8],
+    job: Job,
+    table: &mut [u8],
+    buffer: &mut [u8],
+    room: &mut [u8],
+) -> Progress {
     let mut p = Progress {
         stage: Stage::Start,
         at: 0,
         have: 0,
         status: GOING,
     };
-    let mut left = u64::MAX;
-    while left > 0 {
-        p = turn(name, job, p, table, buffer, room);
+    for _ in 0..u64::MAX {
+        p = turn(out, err, input, name, job, p, table, buffer, room);
         if p.status != GOING {
             return p;
         }
-        left -= 1;
     }
     let stage = p.stage;
-    refused(name, stage, b": too long\n")
+    refused(err, name, stage, b": too long\n")
 }
 
 fn has_group(stage: Stage) -> bool {
@@ -206,20 +221,20 @@ fn is_text(octet: u8) -> bool {
     b' ' <= octet && octet <= b'~'
 }
 
-fn tell_octets(name: &[u8], what: u8) {
-    io::write_all(STDERR_FILENO, name);
+fn tell_octets(err: &impl Print, name: &[u8], what: u8) {
+    said::say(err, name);
     if what == LISTING {
-        io::write_all(STDERR_FILENO, b": this is text, and messages are");
+        said::say(err, b": this is text, and messages are");
     } else {
-        io::write_all(STDERR_FILENO, b": this is text, and a trace is");
+        said::say(err, b": this is text, and a trace is");
     }
-    io::write_all(STDERR_FILENO, b" octets: make them with tup-octets FILE | ");
-    io::write_all(STDERR_FILENO, name);
-    io::write_all(STDERR_FILENO, b"\n");
+    said::say(err, b" octets: make them with tup-octets FILE | ");
+    said::say(err, name);
+    said::say(err, b"\n");
 }
 
 // A file in its readable form has no group where its octets should begin. Whoever feeds it by mistake is told what is missing.
-fn hint(name: &[u8], what: u8, stage: Stage, rest: &[u8]) {
+fn hint(err: &impl Print, name: &[u8], what: u8, stage: Stage, rest: &[u8]) {
     if has_group(stage) {
         return;
     }
@@ -227,11 +242,19 @@ fn hint(name: &[u8], what: u8, stage: Stage, rest: &[u8]) {
         return;
     }
     if is_text(rest[0]) {
-        tell_octets(name, what);
+        tell_octets(err, name, what);
     }
 }
 
-fn last_line(name: &[u8], what: u8, p: Progress, buffer: &[u8], room: &mut [u8]) {
+fn last_line(
+    out: &impl Print,
+    err: &impl Print,
+    name: &[u8],
+    what: u8,
+    p: Progress,
+    buffer: &[u8],
+    room: &mut [u8],
+) {
     let at = p.at;
     let have = p.have;
     if have < at || buffer.len() < have {
@@ -239,43 +262,52 @@ fn last_line(name: &[u8], what: u8, p: Progress, buffer: &[u8], room: &mut [u8])
     }
     let stage = p.stage;
     let n = parts::finish(stage, &buffer[at..have], room);
-    if !io::write_all(STDOUT_FILENO, &room[..n]) {
-        failed(name, b": cannot write");
+    if let Err(e) = out.write_all(&room[..n]) {
+        failed(err, name, b": cannot write", &e);
         return;
     }
-    hint(name, what, stage, &buffer[at..have]);
+    hint(err, name, what, stage, &buffer[at..have]);
 }
 
-fn work(name: &[u8], job: Job) {
+fn work(out: &impl Print, err: &impl Print, input: &mut impl Read, name: &[u8], job: Job) {
     let mut table = [0u8; 40968];
     let mut buffer = [0u8; 65536];
     let mut room = [0u8; 65536];
-    let p = turns(name, job, &mut table, &mut buffer, &mut room);
+    let p = turns(
+        out,
+        err,
+        input,
+        name,
+        job,
+        &mut table,
+        &mut buffer,
+        &mut room,
+    );
     if p.status == READ {
-        last_line(name, job.what, p, &buffer, &mut room);
+        last_line(out, err, name, job.what, p, &buffer, &mut room);
     }
 }
 
 // Does a program's work as its arguments ask, or prints its help.
-pub fn start(what: u8, name: &[u8], help: &[u8]) {
-    let asked = arguments::read(name);
+pub fn start(rt: &HostRuntime, what: u8, name: &[u8], help: &[u8]) {
+    let out = rt.stdout();
+    let err = rt.stderr();
+    let asked = arguments::read(rt, &err, name);
     if asked.want == arguments::HELP {
-        if !io::write_all(STDOUT_FILENO, help) {
-            failed(name, b": cannot write");
+        if let Err(e) = out.write_all(help) {
+            failed(&err, name, b": cannot write", &e);
         }
     }
     if asked.want != arguments::WORK {
         return;
     }
-    let input = arguments::open(name, asked.file);
-    if input >= 0 {
-        work(
-            name,
-            Job {
-                what: what,
-                input: input,
-                names: asked.names,
-            },
-        );
+    let job = Job {
+        what: what,
+        names: asked.names,
+    };
+    if asked.file == arguments::NO_FILE {
+        work(&out, &err, &mut rt.stdin(), name, job);
+    } else if let Some(mut input) = arguments::open(rt, &err, name, asked.file) {
+        work(&out, &err, &mut input, name, job);
     }
 }

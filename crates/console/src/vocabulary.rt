@@ -6,7 +6,7 @@
 const FLAGS_END: u8 = 16;
 
 // Where the digits of a number stand in the room, and its value.
-#[derive(Drop)]
+#[derive(Clone, Copy)]
 pub(crate) struct Digits {
     pub start: usize,
     pub behind: usize,
@@ -144,14 +144,14 @@ pub(crate) fn flags(room: &mut [u8], d: Digits) -> usize {
         start,
         at,
         n & names::AWAITING_BLA != 0,
-        b"awaiting-bla",
+        b"awaiting-BLA",
     );
     flag(
         room,
         start,
         at,
         n & names::AWAITING_UBA != 0,
-        b"awaiting-uba",
+        b"awaiting-UBA",
     )
 }
 

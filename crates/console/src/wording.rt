@@ -4,7 +4,7 @@ ghost use Rattle.std.specs.Prelude.{◌≤◌, length};
 
 use super::vocabulary;
 use super::vocabulary::Digits;
-use libc::STDOUT_FILENO;
+use std::io;
 
 // What a column of the lines holds, by a letter for each: a number that has no word, or one of a refusal, a state, flags, an indication or a
 // heading, which is hexadecimal. The first column of each line is its ordinal.
@@ -33,7 +33,7 @@ const LINE: usize = 256;
 
 // Where the translation stands: the column and the number in it so far, and the places of the room at which the column starts and
 // the next octet goes.
-#[derive(Drop)]
+#[derive(Clone, Copy)]
 struct Place {
     column: usize,
     number: u16,
@@ -42,7 +42,7 @@ struct Place {
 }
 
 // How many octets of the lines were taken, and how many of the room written.
-#[derive(Drop)]
+#[derive(Clone, Copy)]
 struct Part {
     taken: usize,
     written: usize,
@@ -168,27 +168,25 @@ fn named(kinds: &[u8], lines: &[u8], room: &mut [u8]) -> Part
     }
 }
 
-fn write_by(kinds: &[u8], lines: &[u8], room: &mut [u8]) -> bool {
+fn write_by(out: &impl Print, kinds: &[u8], lines: &[u8], room: &mut [u8]) -> io::Result<()> {
     let mut at = 0;
     while at < lines.len() {
         let part = named(kinds, &lines[at..], room);
         let written = part.written;
         if part.taken == 0 {
-            return false;
+            return Err(io::Error::other("out of place"));
         }
         if room.len() < written {
-            return false;
+            return Err(io::Error::other("out of place"));
         }
-        if !io::write_all(STDOUT_FILENO, &room[..written]) {
-            return false;
-        }
+        out.write_all(&room[..written])?;
         at += part.taken;
     }
-    true
+    Ok(())
 }
 
-// Writes the named form of whole lines to standard output, much at a time, and answers whether that went well.
-pub(crate) fn write(kinds: &[u8], lines: &[u8]) -> bool {
-    let mut room = io::large_buffer();
-    write_by(kinds, lines, &mut room)
+// Writes the named form of whole lines to standard output, much at a time.
+pub(crate) fn write(out: &impl Print, kinds: &[u8], lines: &[u8]) -> io::Result<()> {
+    let mut room = [0u8; 65536];
+    write_by(out, kinds, lines, &mut room)
 }
