@@ -1,13 +1,14 @@
 // Runs the replay of the library over small traces, each in parts of every size from one octet up, and counts the runs whose text is not
 // the one that docs/RULES.md asks for ("The trace and its replay").
 #![tactic(auto)]
+
 ghost use Rattle.std.specs.Prelude.{◌≤◌};
 
-use libc::STDOUT_FILENO;
 use parts::Stage;
+use std::io;
 
 // Where a run stands: how many octets of the trace it took and was shown, and how many octets of text it wrote.
-#[derive(Drop)]
+#[derive(Clone, Copy)]
 struct Place {
     stage: Stage,
     at: usize,
@@ -219,14 +220,13 @@ fn part_6() -> u64
     a + b + c
 }
 
-fn main() {
+fn main(rt: HostRuntime) -> io::Result<()> {
     let n1 = part_1();
     let n2 = part_2();
     let n3 = part_3();
     let n4 = part_4();
     let n5 = part_5();
     let n6 = part_6();
-    io::write_all(STDOUT_FILENO, b"216 runs, ");
-    io::print_decimal(STDOUT_FILENO, n1 + n2 + n3 + n4 + n5 + n6);
-    io::write_all(STDOUT_FILENO, b" wrong\n");
+    let wrong = n1 + n2 + n3 + n4 + n5 + n6;
+    println!(rt; "216 runs, {wrong} wrong")
 }
