@@ -1,7 +1,9 @@
 // Lists messages of a link from a file or standard input on standard output (docs/RULES.md, "A file of messages"); installed as tup-messages.
 #![tactic(auto)]
-fn main() {
+
+fn main(rt: HostRuntime) {
     console::start(
+        &rt,
         console::LISTING,
         b"tup-messages",
         b"usage: tup-messages [--names] [FILE]

@@ -1,7 +1,9 @@
 // Replays a trace from a file or standard input to standard output (docs/RULES.md, "The trace and its replay"); installed as tup-replay.
 #![tactic(auto)]
-fn main() {
+
+fn main(rt: HostRuntime) {
     console::start(
+        &rt,
         console::REPLAY,
         b"tup-replay",
         b"usage: tup-replay [--names] [FILE]
