@@ -69,7 +69,7 @@ event_refused = group.refusals
 -- each number is given exactly when its rule holds and none before it does
 pub event_given : (own far : ℕ) (table : List ℕ) (cic : ℕ) (event : Found) (n : ℕ)
     → ((step_in own far table cic event).answer.refusal ≡ suc n) ↔ Given (suc n) (event_rules own far table cic event)
-event_given own far table cic event = answered (event_rules own far table cic event) (step_in own far table cic event).answer.refusal (event_refused own far table cic event)
+event_given own far table cic event = answered (event_rules own far table cic event) (step_in own far table cic event).answer.refusal (group.refusals own far table cic event)
 
 -- an event's own: 3 for numbers that name none; of a signal none; of a command 4 and 5; of a timer 6
 pub no_event3 : (r : Record) → found_rules r Missing ≡ refuse 3 true ∷ []
@@ -245,7 +245,9 @@ places_by_letter own far count xs room =
 
 -- the number that is answered is the refusal and 256 times its place, at most 2^56 - 1
 pub read_refused : (own far count : ℕ) (xs buffer : List ℕ) → (read_into own far count xs buffer).answer % 256 ≡ first_rule (reader_rules own far count xs (length buffer))
-read_refused own far count xs buffer = into_refusal own far count xs buffer ∙ ap first_rule (read_by_letter own far count xs (length buffer))
+read_refused own far count xs buffer =
+    let e : into_rules own far count xs (length buffer) ≡ reader_rules own far count xs (length buffer) = rw (counted_length (heading_in xs) (length xs) (count_in xs)) (simp (signals_of_iam (heading_in xs))) in
+    into_refusal own far count xs buffer ∙ ap first_rule e
 
 pub read_placed : (own far count : ℕ) (xs buffer : List ℕ) → (read_into own far count xs buffer).answer / 256 ≡ min (place_of (reader_faults own far count xs (length buffer))) 0xffffffffffffff
 read_placed own far count xs buffer = into_place own far count xs buffer ∙ ap (λ (place : ℕ). min place 0xffffffffffffff) (places_by_letter own far count xs (length buffer))

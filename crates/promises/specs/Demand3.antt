@@ -147,7 +147,8 @@ pub ends_agree : (own far cic : ℕ) → (own ≡ far → ⊥)
     → (r.state ≡ 5 → ⊥) → (r.state ≡ 12 → ⊥) → (t.state ≡ 5 → ⊥) → (t.state ≡ 12 → ⊥) → AgreeOn r t
 unfolding Claim
 ends_agree own far cic different r t q r5 r12 t5 t12 =
-    agree_on r t (two_ends_agree own far cic different (end r []) (end t []) q refl refl (not_awaiting r.state r12) (not_awaiting t.state t12))
+    let k = two_ends_agree own far cic different (end r []) (end t []) q refl refl (not_awaiting r.state r12) (not_awaiting t.state t12) in
+    (at_stages_either_way SameStage idle seized complete free answered cleared r.state t.state k.call, marks_equal t.far r.own k.block_of_first, marks_equal r.far t.own k.block_of_second)
 
 -- And more: an end rests in 5 only opposite one in 12. So neither being in 12 is enough.
 pub in5_only_opposite12 : (own far cic : ℕ) → (own ≡ far → ⊥)
@@ -181,7 +182,17 @@ pub never_next : (own far cic : ℕ) → (own ≡ far → ⊥)
     → (r : Record) (s : Signal) (w : List Signal) (y : End) → EndsCome (controls own far cic) (controls far own cic) (end r (s ∷ w)) y
     → Never s r.state → ⊥
 unfolding ClaimUnheard
-never_next own far cic different r s w y q n = not_both (unheard r.state s) (is_unheard n) ((some_never_arrive own far cic different (end r (s ∷ w)) y q).0 s w refl)
+never_next own far cic different r s w y q n = not_both (unheard r.state s) (unheard_then n) ((some_never_arrive own far cic different (end r (s ∷ w)) y q).0 s w refl)
+  where
+    unheard_then : {s : Signal} {p : ℕ} → Never s p → T (unheard p s)
+    unheard_then (release_guard {p} h k) = unheard_rlg p h k
+    unheard_then answer_charged = tt
+    unheard_then answer_free = tt
+    unheard_then clear_back = tt
+    unheard_then re_answer = tt
+    unheard_then clear_forward2 = tt
+    unheard_then clear_forward3 = tt
+    unheard_then clear_forward4 = tt
 
 -- NOT OF NOTHING
 

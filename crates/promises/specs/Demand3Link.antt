@@ -23,14 +23,14 @@ use Rattle.writer.specs.Writing.{said, bad_address}
 use Rattle.tup.specs.Entries.{read_into, write_from}
 use Rattle.ends.specs.Machine.{Both, When.any_time, When.in_silence, When.losing_all, when_given, none, without, Happening.arrives, Reached.start}
 use Rattle.ends.specs.Ends.{in_order, unheard}
-use Rattle.ends.proofs.Plain.{not_awaiting, opposite12, not_both}
+use Rattle.ends.proofs.Plain.{at_stages_either_way, not_awaiting, marks_equal, opposite12, unheard_rlg, not_both}
 use Rattle.exchanges.specs.Link.{Message, Exchange, exchange, is_about, Particulars, good, saying, chosen, writes_all, plainly, LinkStart.idle_at_both, ExchangesCome, ClaimOver}
 use Rattle.exchanges.specs.Cases.{A, B, Run, ran_from, command, quiet, two, crossing, restarting, arriving}
 use Rattle.exchanges.proofs.Sent.{sent_is_read}
 use Rattle.exchanges.proofs.Over.{mirror_link, exchanges_agree, head_heard}
 use Rattle.exchanges.proofs.Rules.{dropped, taken, timely, in_quiet, heedlessly, lost, strangers}
 use Rattle.exchanges.proofs.Cases.{shown, ran}
-use Rattle.promises.specs.Demand3.{AgreeOn, agree_on, Never, is_unheard}
+use Rattle.promises.specs.Demand3.{AgreeOn, SameStage, Never}
 
 -- THE RULES
 
@@ -165,9 +165,11 @@ pub link_agrees : (own far cic : ℕ) (t u : List ℕ) (w v : List Message) → 
     → ((record_at t cic).state ≡ 5 → ⊥) → ((record_at t cic).state ≡ 12 → ⊥) → ((record_at u cic).state ≡ 5 → ⊥) → ((record_at u cic).state ≡ 12 → ⊥)
     → AgreeOn (record_at t cic) (record_at u cic)
 unfolding ClaimOver
-link_agrees own far cic t u w v q nw nv t5 t12 u5 u12 = agree_on (record_at t cic) (record_at u cic)
-    (exchanges_agree own far cic (exchange t w) (exchange u v) q (both (none (is_about cic) w) (none (is_about cic) v) nw nv)
-    (not_awaiting (record_at t cic).state t12) (not_awaiting (record_at u cic).state u12))
+link_agrees own far cic t u w v q nw nv t5 t12 u5 u12 =
+    let r = record_at t cic in
+    let s = record_at u cic in
+    let k = exchanges_agree own far cic (exchange t w) (exchange u v) q (both (none (is_about cic) w) (none (is_about cic) v) nw nv) (not_awaiting r.state t12) (not_awaiting s.state u12) in
+    (at_stages_either_way SameStage SameStage.idle SameStage.seized SameStage.complete SameStage.free SameStage.answered SameStage.cleared r.state s.state k.call, marks_equal s.far r.own k.block_of_first, marks_equal r.far s.own k.block_of_second)
 
 -- and it rests in 5 at one only if it is in 12 at the other
 pub link_in5_only_opposite12 : (own far cic : ℕ) (t u : List ℕ) (w v : List Message) → ExchangesCome own far cic (exchange t w) (exchange u v)
@@ -180,7 +182,17 @@ link_in5_only_opposite12 own far cic t u w v q nw nv = opposite12 (record_at t c
 pub never_at_head : (own far cic : ℕ) (t : List ℕ) (m : Message) (w : List Message) (y : Exchange) → ExchangesCome own far cic (exchange t (m ∷ w)) y
     → let read = reading own far (records_in (length t)) m in
     (s : Signal) → read.refusal ≡ 0 → read.message.circuit.0 ≡ cic → read.message.signal ≡ Known s → Never s (record_at t cic).state → ⊥
-never_at_head own far cic t m w y q s taken on says n = not_both (unheard (record_at t cic).state s) (is_unheard n) (head_heard own far cic t m w y q s taken on says)
+never_at_head own far cic t m w y q s taken on says n = not_both (unheard (record_at t cic).state s) (unheard_then n) (head_heard own far cic t m w y q s taken on says)
+  where
+    unheard_then : {s : Signal} {p : ℕ} → Never s p → T (unheard p s)
+    unheard_then (Never.release_guard {p} h k) = unheard_rlg p h k
+    unheard_then Never.answer_charged = tt
+    unheard_then Never.answer_free = tt
+    unheard_then Never.clear_back = tt
+    unheard_then Never.re_answer = tt
+    unheard_then Never.clear_forward2 = tt
+    unheard_then Never.clear_forward3 = tt
+    unheard_then Never.clear_forward4 = tt
 
 -- NOT OF NOTHING
 

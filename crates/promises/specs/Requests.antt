@@ -31,6 +31,7 @@ use Rattle.calls.proofs.Rule.{apart}
 use Rattle.layout.specs.Layout.{records_in, counter_in, state_at, rank_at, record_at, allowed_at, idle}
 use Rattle.group.specs.Table.{step_in}
 use Rattle.group.specs.Runs.{Follows, Follows.start, Follows.next, events}
+use Rattle.group.proofs.Laws as group
 use Rattle.group.proofs.Ranks as ranks
 use Rattle.select.specs.First.{some}
 use Rattle.select.specs.Selection.{qualifies, select_in}
@@ -40,11 +41,13 @@ use Rattle.circuit.proofs.Refusals.{every_number, answer_fits, answered as given
 use Rattle.codes.specs.declared.Named.TheVariants.{Known}
 use Rattle.formats.specs.Octets.{besides_st, to_operator, short}
 use Rattle.reader.specs.Reading.{reading}
-use Rattle.ends.specs.Ends.{End, end, EndsCome}
+use Rattle.ends.specs.Ends.{End, end, EndsCome, unheard, ClaimUnheard}
+use Rattle.ends.proofs.Heard.{some_never_arrive}
+use Rattle.ends.proofs.Plain.{not_both}
 use Rattle.exchanges.specs.Link.{Message, Exchange, exchange, ExchangesCome}
-use Rattle.promises.specs.Demand1.{event_rules, event_refused}
-use Rattle.promises.specs.Demand3.{Never, never_next}
-use Rattle.promises.specs.Demand3Link.{never_at_head}
+use Rattle.exchanges.proofs.Over.{head_heard}
+use Rattle.promises.specs.Demand1.{event_rules}
+use Rattle.promises.specs.Demand3.{Never}
 
 -- T-01. REMEMBER WHEN A CIRCUIT WAS FREED
 
@@ -251,6 +254,7 @@ module _ (own far bla uba : Bool) (allowed : T (valid (rec 1 own far bla uba))) 
     (λ c e. rw (is, e) refl),
   )
 
+-- each of them is among the signals that `Demand3` says never arrive in 1
 never : {s : Signal} → Nonsense s → Never s 1
 never anc = Never.answer_charged
 never ann = Never.answer_free
@@ -258,19 +262,31 @@ never cbk = Never.clear_back
 never ran = Never.re_answer
 never rlg = Never.release_guard {p = 1} (λ e. omega arith) (λ e. omega arith)
 
+unheard_there : {s : Signal} {p : ℕ} → p ≡ 1 → Nonsense s → T (unheard p s)
+unheard_there {s} one n = subst (λ (p : ℕ). T (unheard p s)) (sym one) (go n)
+  where
+    go : {s : Signal} → Nonsense s → T (unheard 1 s)
+    go anc = tt
+    go ann = tt
+    go cbk = tt
+    go ran = tt
+    go rlg = tt
+
 -- Between two ends of ours, whatever happens to them by the rules of `Demand3`, none of these ever arrives in state 1: what is the next to arrive at
 -- an end in state 1 is none of them. So the row is about other makers' exchanges alone.
 pub nonsense_never_comes : (own far cic : ℕ) → (own ≡ far → ⊥)
     → (r : Record) (s : Signal) (w : List Signal) (y : End) → EndsCome (controls own far cic) (controls far own cic) (end r (s ∷ w)) y
     → r.state ≡ 1 → Nonsense s → ⊥
-nonsense_never_comes own far cic apart r s w y q one n = never_next own far cic apart r s w y q (subst (Never s) (sym one) (never n))
+unfolding ClaimUnheard
+nonsense_never_comes own far cic apart r s w y q one n = not_both (unheard r.state s) (unheard_there one n) ((some_never_arrive own far cic apart (end r (s ∷ w)) y q).0 s w refl)
 
 -- the same of two exchanges over a link, by the rules of `Demand3Link`: what the message at the head of the queue says on the circuit
 pub nonsense_never_comes_in : (own far cic : ℕ) (t : List ℕ) (m : Message) (w : List Message) (y : Exchange) → ExchangesCome own far cic (exchange t (m ∷ w)) y
     → let read = reading own far (records_in (length t)) m in
     (s : Signal) → read.refusal ≡ 0 → read.message.circuit.0 ≡ cic → read.message.signal ≡ Known s
     → (record_at t cic).state ≡ 1 → Nonsense s → ⊥
-nonsense_never_comes_in own far cic t m w y q s taken on says one n = never_at_head own far cic t m w y q s taken on says (subst (Never s) (sym one) (never n))
+nonsense_never_comes_in own far cic t m w y q s taken on says one n =
+    not_both (unheard (record_at t cic).state s) (unheard_there one n) (head_heard own far cic t m w y q s taken on says)
 
 -- T-06. SHOW THE RULES AS A TABLE
 
@@ -316,7 +332,7 @@ other refusal = not (eqb refusal 17)
 
 -- an event says nothing of indicators, and is never refused 17; nor is a choice
 pub events_never17 : (own far : ℕ) (table : List ℕ) (cic : ℕ) (event : Found) → (step_in own far table cic event).answer.refusal ≡ 17 → ⊥
-events_never17 own far table cic event e = answer_fits other (event_rules own far table cic event) (none_is event) 16 (sym (event_refused own far table cic event) ∙ e)
+events_never17 own far table cic event e = answer_fits other (event_rules own far table cic event) (none_is event) 16 (sym (group.refusals own far table cic event) ∙ e)
   where
     none_is : (event : Found) → T (every_number other (event_rules own far table cic event))
     none_is Missing = tt

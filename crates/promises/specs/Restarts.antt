@@ -35,11 +35,11 @@ use Rattle.ends.specs.Cases.{kept_command, kept_timer, KeptRun, ran_kept, kept, 
 use Rattle.ends.proofs.Machine.{all_lost}
 use Rattle.ends.proofs.Heals.{afterwards, restart_heals_all, all_arrives, repeats_first, repeats_second}
 use Rattle.ends.proofs.Calm.{waiting, not_waiting, kept_ends_agree, kept_next_heard, mirror_kept, restarted_amid}
-use Rattle.ends.proofs.Plain.{not_awaiting, opposite12, not_both}
+use Rattle.ends.proofs.Plain.{at_stages_either_way, not_awaiting, marks_equal, opposite12, unheard_rlg, not_both}
 use Rattle.ends.proofs.Cases.{kept_as_told, kept_reached}
 use Rattle.exchanges.specs.Link.{Message, exchange, is_about, plainly, writes_all, ExchangesCome}
 use Rattle.exchanges.proofs.Rules.{restarting}
-use Rattle.promises.specs.Demand3.{AgreeOn, agree_on, Never, is_unheard}
+use Rattle.promises.specs.Demand3.{AgreeOn, SameStage, Never}
 
 -- DEMAND 3 HOLDS FROM THERE ON
 
@@ -210,7 +210,8 @@ pub kept_agree : (own far cic : ℕ) → (own ≡ far → ⊥)
     → (r.state ≡ 5 → ⊥) → (r.state ≡ 12 → ⊥) → (t.state ≡ 5 → ⊥) → (t.state ≡ 12 → ⊥) → AgreeOn r t
 unfolding ClaimKept
 kept_agree own far cic different r t k j q r5 r12 t5 t12 =
-    agree_on r t (kept_ends_agree own far cic different (watched r k []) (watched t j []) q refl refl (not_awaiting r.state r12) (not_awaiting t.state t12))
+    let agreed = kept_ends_agree own far cic different (watched r k []) (watched t j []) q refl refl (not_awaiting r.state r12) (not_awaiting t.state t12) in
+    (at_stages_either_way SameStage SameStage.idle SameStage.seized SameStage.complete SameStage.free SameStage.answered SameStage.cleared r.state t.state agreed.call, marks_equal t.far r.own agreed.block_of_first, marks_equal r.far t.own agreed.block_of_second)
 
 -- an end rests in 5 only opposite one in 12;
 pub kept_in5_only_opposite12 : (own far cic : ℕ) → (own ≡ far → ⊥)
@@ -224,7 +225,17 @@ pub kept_never_next : (own far cic : ℕ) → (own ≡ far → ⊥)
     → (r : Record) (k : Bool) (s : Signal) (w : List Signal) (y : WatchedEnd) → KeptCome (controls own far cic) (controls far own cic) (watched r k (s ∷ w)) y
     → Never s r.state → ⊥
 kept_never_next own far cic different r k s w y q n =
-    not_both (unheard r.state s) (is_unheard n) (kept_next_heard own far cic different (watched r k (s ∷ w)) y q s w refl)
+    not_both (unheard r.state s) (unheard_then n) (kept_next_heard own far cic different (watched r k (s ∷ w)) y q s w refl)
+  where
+    unheard_then : {s : Signal} {p : ℕ} → Never s p → T (unheard p s)
+    unheard_then (Never.release_guard {p} h k) = unheard_rlg p h k
+    unheard_then Never.answer_charged = tt
+    unheard_then Never.answer_free = tt
+    unheard_then Never.clear_back = tt
+    unheard_then Never.re_answer = tt
+    unheard_then Never.clear_forward2 = tt
+    unheard_then Never.clear_forward3 = tt
+    unheard_then Never.clear_forward4 = tt
 
 -- From any two legal records with nothing on its way: the second end's host gives whatever events it likes, as far as the rule allows them, and what
 -- that end sends is on its way; then the first end, which has been still, restarts, and nothing is lost. Two ends can come to that too: so a restart
