@@ -16,7 +16,7 @@ use Rattle.words.specs.Words.{largest, number, put}
 use Rattle.step.specs.Step.{step, step_found}
 use Rattle.layout.specs.Layout.{group_in, held_at, records_in, counter_in, state_at, flags_at, rank_at, record_of, flags_of, put_octets, put_rank, put_counter, idle}
 use Rattle.group.specs.Table.{step_in}
-use Rattle.group.specs.Runs.{Follows, Follows.start}
+use Rattle.group.specs.Runs.{Follows}
 use Rattle.group.specs.Batches.{Handed, Answered, after, answered, only, OnceEach, No13, Rearranged}
 use Rattle.group.proofs.Local as local
 use Rattle.group.proofs.Batches as batches

@@ -35,7 +35,7 @@ use Rattle.layout.specs.Layout as table
 use Rattle.layout.specs.Layout.{records_in, counter_in, state_at, record_of, record_at, allowed_at, table_octets, idle}
 use Rattle.layout.proofs.Laws.{records_back}
 use Rattle.group.specs.Table.{step_in}
-use Rattle.group.specs.Runs.{Follows, Follows.start, Follows.next}
+use Rattle.group.specs.Runs.{Follows}
 use Rattle.group.proofs.Laws as group
 use Rattle.group.proofs.Valid.{never12}
 use Rattle.formats.specs.Messages.{has_signals, listed, is_iam, is_acm, half}
@@ -192,56 +192,7 @@ unfit_is = unfit_length
 
 -- the reader goes by the format of the heading; by the letter that is this
 read_by_letter : (own far count : ℕ) (xs : List ℕ) (room : ℕ) → into_rules own far count xs room ≡ reader_rules own far count xs room
-read_by_letter own far count xs room =
-    let h = heading_in xs in
-    let iam = signals_of_iam h in
-    alike (into_rules own far count xs room) (reader_rules own far count xs room) (
-      refl,
-      refl,
-      (refl, refl, (refl, refl, (refl, refl, (refl, refl, (refl, ap (λ (b : Bool). b && eqb (count_in xs) 0) iam, (refl, counted_length h (length xs) (count_in xs), (refl, ap (λ (b : Bool). b && bad_codes (address_in xs)) iam, (refl, ap (λ (b : Bool). b && short (indicators_in xs) (address_in xs)) iam, (refl, refl, (refl, refl, tt)))))))))),
-    )
-
-places_by_letter : (own far count : ℕ) (xs : List ℕ) (room : ℕ) → place_of (into_faults own far count xs room) ≡ place_of (reader_faults own far count xs room)
-places_by_letter own far count xs room =
-    let h = heading_in xs in
-    let iam = signals_of_iam h in
-    like (into_faults own far count xs room) (reader_faults own far count xs room) (
-      refl,
-      (λ e. refl),
-      (
-        refl,
-        (λ e. refl),
-        (
-          refl,
-          (λ e. refl),
-          (
-            refl,
-            (λ e. refl),
-            (
-              refl,
-              (λ e. refl),
-              (
-                ap (λ (b : Bool). b && eqb (count_in xs) 0) iam,
-                (λ e. count_octet h (both_hold (has_signals h) e).0),
-                (
-                  counted_length h (length xs) (count_in xs),
-                  (λ e. refl),
-                  (
-                    ap (λ (b : Bool). b && bad_codes (address_in xs)) iam,
-                    (λ e. signal_octets_of h (both_hold (has_signals h) e).0 (first_bad (address_in xs))),
-                    (
-                      ap (λ (b : Bool). b && short (indicators_in xs) (address_in xs)) iam,
-                      (λ e. count_octet h (both_hold (has_signals h) e).0),
-                      (refl, (λ e. refl), (refl, (λ e. refl), tt)),
-                    ),
-                  ),
-                ),
-              ),
-            ),
-          ),
-        ),
-      ),
-    )
+read_by_letter own far count xs room = rw (counted_length (heading_in xs) (length xs) (count_in xs)) (simp (signals_of_iam (heading_in xs)))
 
 -- the number that is answered is the refusal and 256 times its place, at most 2^56 - 1
 pub read_refused : (own far count : ℕ) (xs buffer : List ℕ) → (read_into own far count xs buffer).answer % 256 ≡ first_rule (reader_rules own far count xs (length buffer))
@@ -251,13 +202,59 @@ read_refused own far count xs buffer =
 
 pub read_placed : (own far count : ℕ) (xs buffer : List ℕ) → (read_into own far count xs buffer).answer / 256 ≡ min (place_of (reader_faults own far count xs (length buffer))) 0xffffffffffffff
 read_placed own far count xs buffer = into_place own far count xs buffer ∙ ap (λ (place : ℕ). min place 0xffffffffffffff) (places_by_letter own far count xs (length buffer))
+  where
+    places_by_letter : (own far count : ℕ) (xs : List ℕ) (room : ℕ) → place_of (into_faults own far count xs room) ≡ place_of (reader_faults own far count xs room)
+    places_by_letter own far count xs room =
+        let h = heading_in xs in
+        let iam = signals_of_iam h in
+        like (into_faults own far count xs room) (reader_faults own far count xs room) (
+          refl,
+          (λ e. refl),
+          (
+            refl,
+            (λ e. refl),
+            (
+              refl,
+              (λ e. refl),
+              (
+                refl,
+                (λ e. refl),
+                (
+                  refl,
+                  (λ e. refl),
+                  (
+                    ap (λ (b : Bool). b && eqb (count_in xs) 0) iam,
+                    (λ e. count_octet h (both_hold (has_signals h) e).0),
+                    (
+                      counted_length h (length xs) (count_in xs),
+                      (λ e. refl),
+                      (
+                        ap (λ (b : Bool). b && bad_codes (address_in xs)) iam,
+                        (λ e. signal_octets_of h (both_hold (has_signals h) e).0 (first_bad (address_in xs))),
+                        (
+                          ap (λ (b : Bool). b && short (indicators_in xs) (address_in xs)) iam,
+                          (λ e. count_octet h (both_hold (has_signals h) e).0),
+                          (refl, (λ e. refl), (refl, (λ e. refl), tt)),
+                        ),
+                      ),
+                    ),
+                  ),
+                ),
+              ),
+            ),
+          ),
+        )
 
 pub read_given : (own far count : ℕ) (xs buffer : List ℕ) (n : ℕ)
     → ((read_into own far count xs buffer).answer % 256 ≡ suc n) ↔ Given (suc n) (reader_rules own far count xs (length buffer))
-read_given own far count xs buffer = answered (reader_rules own far count xs (length buffer)) ((read_into own far count xs buffer).answer % 256) (read_refused own far count xs buffer)
+read_given own far count xs buffer =
+    let e : into_rules own far count xs (length buffer) ≡ reader_rules own far count xs (length buffer) = rw (counted_length (heading_in xs) (length xs) (count_in xs)) (simp (signals_of_iam (heading_in xs))) in
+    answered (reader_rules own far count xs (length buffer)) ((read_into own far count xs buffer).answer % 256) (into_refusal own far count xs buffer ∙ ap first_rule e)
 
 pub read_taken : (own far count : ℕ) (xs buffer : List ℕ) → ((read_into own far count xs buffer).answer ≡ 0) ↔ Clear (reader_rules own far count xs (length buffer))
-read_taken own far count xs buffer = subst (λ (rules : List Rule). ((read_into own far count xs buffer).answer ≡ 0) ↔ Clear rules) (read_by_letter own far count xs (length buffer)) (into_taken own far count xs buffer)
+read_taken own far count xs buffer =
+    let e : into_rules own far count xs (length buffer) ≡ reader_rules own far count xs (length buffer) = rw (counted_length (heading_in xs) (length xs) (count_in xs)) (simp (signals_of_iam (heading_in xs))) in
+    subst (λ (rules : List Rule). ((read_into own far count xs buffer).answer ≡ 0) ↔ Clear rules) e (into_taken own far count xs buffer)
 
 -- the order for the writer: 1, 2, 9, 3, 10, 17, 11
 abbrev writer_rules : (own far count : ℕ) → Said → (room : ℕ) → List Rule

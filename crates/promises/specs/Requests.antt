@@ -30,7 +30,7 @@ use Rattle.calls.specs.Calls.{call, meaning, is_number}
 use Rattle.calls.proofs.Rule.{apart}
 use Rattle.layout.specs.Layout.{records_in, counter_in, state_at, rank_at, record_at, allowed_at, idle}
 use Rattle.group.specs.Table.{step_in}
-use Rattle.group.specs.Runs.{Follows, Follows.start, Follows.next, events}
+use Rattle.group.specs.Runs.{Follows, events}
 use Rattle.group.proofs.Laws as group
 use Rattle.group.proofs.Ranks as ranks
 use Rattle.select.specs.First.{some}
