@@ -321,7 +321,7 @@ of_text = (
   λ κs a x y s t h k. once h.room k.room,
 )
 
--- the functions over a slice and a number; those over the reader that holds both are proved by hand, and docs/DECISIONS.md (D141) speaks of them
+-- the functions over a slice and a number; docs/DECISIONS.md (D141) speaks of those over the reader that holds both
 pub of_records : Once octets_of.Learnt × Once item_at.Learnt × Once refused_start.Learnt × Once group_in.Learnt × Once behind_at.Learnt
 of_records = (λ κs a x y s t. once, λ κs a x y s t. once, λ κs a x y s t. once, λ κs a x y s t. once, λ κs a x y s t. once)
 
