@@ -178,7 +178,7 @@ fn turn(
     read(err, input, name, after, q.at, q.have, buffer)
 }
 
-// A proved loop ends, and nothing says that a file does, so the turns are counted down from a number that no run uses up.
+// A proved loop ends, and nothing says that a file does, so the turns are counted up to a number that no run reaches.
 fn turns(
     out: &impl Print,
     err: &impl Print,

@@ -69,6 +69,8 @@ use Rattle.formats.proofs.fixed_length.Reads as fixed_length
 use Rattle.formats.proofs.first_bad.Reads as first_bad
 use Rattle.formats.proofs.bad_codes.Reads as bad_codes
 use Rattle.formats.proofs.short.Reads as short
+use Rattle.formats.proofs.above_fifteen.Reads as above_fifteen
+use Rattle.formats.proofs.bad_address.Reads as bad_address
 use Rattle.reader.proofs.read_fields.Reads as read_fields
 use Rattle.reader.proofs.read.Reads as read
 use Rattle.writer.proofs.write.Reads as write
@@ -251,8 +253,8 @@ of_group = (λ κs a x y s t h k. once h.0 k.0, λ κs a x y s t h k. once h.1.1
 pub of_select : Once select.Learnt
 of_select κs a x y s t = once
 
-pub of_formats : Once fixed_length.Learnt × Once first_bad.Learnt × Once bad_codes.Learnt × Once short.Learnt
-of_formats = (λ κs a x y s t. once, λ κs a x y s t. once, λ κs a x y s t. once, λ κs a x y s t. once)
+pub of_formats : Once fixed_length.Learnt × Once first_bad.Learnt × Once bad_codes.Learnt × Once short.Learnt × Once above_fifteen.Learnt × Once bad_address.Learnt
+of_formats = (λ κs a x y s t. once, λ κs a x y s t. once, λ κs a x y s t. once, λ κs a x y s t. once, λ κs a x y s t. once, λ κs a x y s t. once)
 
 pub of_reader : Once read_fields.Learnt × Once read.Learnt
 of_reader = (λ κs a x y s t. once, λ κs a x y s t. once)

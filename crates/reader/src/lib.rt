@@ -32,8 +32,8 @@ pub struct Fields {
     pub address: [u8; 15],
 }
 
-// What a message says. An enum that holds an array is not among the forms that are proved, so the address stands beside the signal and not in
-// it, and so do the other fields that only an IAM has.
+// What a message says. The address stands beside the signal and not in it (docs/DECISIONS.md, D102), and so do the other fields that only an
+// IAM has.
 #[derive(Clone, Copy)]
 pub struct Message {
     pub circuit: Cic,
