@@ -20,7 +20,7 @@ use Rattle.parts.specs.declared.Stage.{Stage}
 use Rattle.parts.specs.declared.Stage.TheVariants.{Start, Bad, Runs, Cut}
 use Rattle.parts.specs.Whole.{Takes, NoRecord, Partial, AtEnd, Making, Lawful, onward, text_at, lines_within, lines, opened, whole}
 use Rattle.parts.specs.Feed.{Part, may_go, share, share_at, stops, behind, run_within, run, begins, fed, is_over, last_line}
-use Rattle.parts.specs.Schedule.{text_from, state_after, Move, Reads, Feeds, Standing, before, moved, after, whole_text_lem, has_next}
+use Rattle.parts.specs.Schedule.{text_from, state_after, Move, Reads, Feeds, Standing, before, moved, after, text_in_all, has_next}
 use Rattle.parts.proofs.Turns.{by_ahead, takes}
 use Rattle.parts.proofs.Runs.{run_stops, run_goes}
 
@@ -132,19 +132,19 @@ module _ {T : Type 0} {w : Making T} (law : Lawful w) where
   splits (Runs r) t s rest n = run_splits (suc (length s)) r t s rest n
   splits (Cut next) t s rest n = refl
 
-  move_keeps : (z : Standing T) (m : Move) → whole_text_lem w (moved w z m) ≡ whole_text_lem w z
-  unfolding whole_text_lem moved
+  move_keeps : (z : Standing T) (m : Move) → text_in_all w (moved w z m) ≡ text_in_all w z
+  unfolding text_in_all moved
   move_keeps z (Reads n) = rw (append_assoc, take-append-drop)
   move_keeps z (Feeds room) = rw (append_assoc, ← splits z.stage z.state z.read z.unread room)
 
-  keeps : (ms : List Move) (z : Standing T) → whole_text_lem w (after w z ms) ≡ whole_text_lem w z
+  keeps : (ms : List Move) (z : Standing T) → text_in_all w (after w z ms) ≡ text_in_all w z
   unfolding after
   keeps [] z = refl
   keeps (m ∷ ms) z = keeps ms (moved w z m) ∙ move_keeps z m
 
   -- whatever the parts and the rooms: the text of the whole file
-  pub in_parts : (t : T) (file : List ℕ) (ms : List Move) → whole_text_lem w (after w (before t file) ms) ≡ whole w file
-  unfolding whole_text_lem text_from
+  pub in_parts : (t : T) (file : List ℕ) (ms : List Move) → text_in_all w (after w (before t file) ms) ≡ whole w file
+  unfolding text_in_all text_from
   in_parts t file ms = keeps ms (before t file)
 
   -- ---- the last line
@@ -192,11 +192,11 @@ module _ {T : Type 0} {w : Making T} (law : Lawful w) where
   pub finished : (t : T) (file : List ℕ) (ms : List Move) (n : ℕ) → line_room ≤ n → (z : Standing T) → z ≡ after w (before t file) ms
       → z.unread ≡ [] → has_next z.stage ≡ true → (fed w z.stage z.state z.read n).taken ≡ 0
       → z.printed ++ last_line (fed w z.stage z.state z.read n).stage z.read ≡ whole w file
-  unfolding whole_text_lem
+  unfolding text_in_all
   finished t file ms n room z e u more none =
       rw (last_is z.stage z.state z.read n room more none)
       (ap (λ (l : List ℕ). z.printed ++ text_from w z.stage z.state l) (sym (append-nil z.read) ∙ ap (λ (l : List ℕ). z.read ++ l) (sym u))
-      ∙ ap (whole_text_lem w) e ∙ in_parts t file ms)
+      ∙ ap (text_in_all w) e ∙ in_parts t file ms)
 
   over_last : (stage : Stage) (t : T) (s l : List ℕ) → is_over stage ≡ true → last_line stage s ≡ text_from w stage t l
   unfolding last_line text_from
@@ -208,5 +208,5 @@ module _ {T : Type 0} {w : Making T} (law : Lawful w) where
   -- and one that is cut or has no group needs no more reading
   pub over_early : (t : T) (file : List ℕ) (ms : List Move) (z : Standing T) → z ≡ after w (before t file) ms → is_over z.stage ≡ true
       → z.printed ++ last_line z.stage z.read ≡ whole w file
-  unfolding whole_text_lem
-  over_early t file ms z e o = ap (λ (l : List ℕ). z.printed ++ l) (over_last z.stage z.state z.read (z.read ++ z.unread) o) ∙ ap (whole_text_lem w) e ∙ in_parts t file ms
+  unfolding text_in_all
+  over_early t file ms z e o = ap (λ (l : List ℕ). z.printed ++ l) (over_last z.stage z.state z.read (z.read ++ z.unread) o) ∙ ap (text_in_all w) e ∙ in_parts t file ms

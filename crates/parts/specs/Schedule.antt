@@ -64,5 +64,5 @@ module _ {T : Type 0} (w : Making T) where
   after z (m ∷ ms) = after (moved z m) ms
 
   -- what is printed and what is still to come
-  unfoldable pub whole_text_lem : Standing T → List ℕ
-  whole_text_lem z = z.printed ++ text_from z.stage z.state (z.read ++ z.unread)
+  unfoldable pub text_in_all : Standing T → List ℕ
+  text_in_all z = z.printed ++ text_from z.stage z.state (z.read ++ z.unread)

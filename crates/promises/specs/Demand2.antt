@@ -56,7 +56,7 @@ use Rattle.parts.specs.declared.Running.{Running}
 use Rattle.parts.specs.declared.Stage.TheVariants.{Start, Bad, Runs, Cut}
 use Rattle.parts.specs.Whole.{Ahead.Takes, Ahead.NoRecord, Ahead.Partial, Ahead.AtEnd, Making, Lawful, text_at, lines, whole}
 use Rattle.parts.specs.Feed.{fed, is_over, last_line}
-use Rattle.parts.specs.Schedule.{text_from, state_after, Move, Move.Reads, Move.Feeds, Standing, before, moved, after, whole_text_lem, has_next}
+use Rattle.parts.specs.Schedule.{text_from, state_after, Move, Move.Reads, Move.Feeds, Standing, before, moved, after, text_in_all, has_next}
 use Rattle.parts.proofs.Schedule.{in_parts, finished, over_early}
 use Rattle.trace.specs.Replay.{happens, event_text, ahead_of, replaying, replay}
 use Rattle.trace.specs.Cases.{whole_case, whole_text}
@@ -307,8 +307,8 @@ pub nothing_read_yet : (trace : List ℕ) → ◌≡◌ {A = Standing (List ℕ)
 nothing_read_yet trace = refl
 
 -- after every schedule, what is printed and what is still to come is the text of the whole trace
-pub still_to_come : (z : Standing (List ℕ)) → whole_text_lem replaying z ≡ z.printed ++ text_from replaying z.stage z.state (z.read ++ z.unread)
-unfolding whole_text_lem
+pub still_to_come : (z : Standing (List ℕ)) → text_in_all replaying z ≡ z.printed ++ text_from replaying z.stage z.state (z.read ++ z.unread)
+unfolding text_in_all
 still_to_come z = refl
 
 pub comes_by_stage : (r : Running) (next : ℕ) (table s : List ℕ)
@@ -317,11 +317,11 @@ pub comes_by_stage : (r : Running) (next : ℕ) (table s : List ℕ)
 unfolding text_from
 comes_by_stage r next table s = refl
 
-pub parts_print_the_whole : (trace : List ℕ) (ms : List Move) → whole_text_lem replaying (after replaying (before [] trace) ms) ≡ replay trace
+pub parts_print_the_whole : (trace : List ℕ) (ms : List Move) → text_in_all replaying (after replaying (before [] trace) ms) ≡ replay trace
 parts_print_the_whole = in_parts lawful []
 
 -- and so of every kind of file of which the laws hold that a trace keeps (`parts/specs/Whole`, `Lawful`)
-pub parts_of_any_file : {T : Type 0} {w : Making T} → Lawful w → (state : T) (file : List ℕ) (ms : List Move) → whole_text_lem w (after w (before state file) ms) ≡ whole w file
+pub parts_of_any_file : {T : Type 0} {w : Making T} → Lawful w → (state : T) (file : List ℕ) (ms : List Move) → text_in_all w (after w (before state file) ms) ≡ whole w file
 parts_of_any_file = in_parts
 
 -- where all was read, nothing more can be taken and a further ordinal fits 64 bits, the last line ends the text

@@ -20,7 +20,7 @@ use Rattle.text.specs.Lines.{refused_line, plain_line, acm_line, iam_line}
 use Rattle.parts.specs.declared.Running.{Running}
 use Rattle.parts.specs.Whole.{Ahead.Takes, Ahead.Partial, Ahead.AtEnd, Stateless, no_state}
 use Rattle.parts.specs.Feed.{fed, is_over, last_line}
-use Rattle.parts.specs.Schedule.{Move, Standing, before, after, whole_text_lem, has_next}
+use Rattle.parts.specs.Schedule.{Move, Standing, before, after, text_in_all, has_next}
 use Rattle.parts.proofs.Schedule.{in_parts, finished, over_early}
 use Rattle.messages.specs.Listing.{read_line, message_line, ahead_in, per_message, listing}
 use Rattle.messages.specs.Cases.{messages_case, messages_text}
@@ -102,7 +102,7 @@ unfolding message_line read_line
 message_lines ordinal f = refl
 
 -- read and fed in parts of any sizes, into rooms of any sizes, the file gives the whole text (`fed` is what the contract of `messages::feed` cites)
-pub list_in_parts : (file : List ℕ) (ms : List Move) → whole_text_lem per_message (after per_message (before no_state file) ms) ≡ listing file
+pub list_in_parts : (file : List ℕ) (ms : List Move) → text_in_all per_message (after per_message (before no_state file) ms) ≡ listing file
 list_in_parts = in_parts lawful no_state
 
 -- with the last line where all was read and nothing more can be taken, or where there is no good group
