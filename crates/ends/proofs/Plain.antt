@@ -2,13 +2,15 @@
 -- Assumes nothing.
 use mathlib.Core.Bool.{Bool, true, false, not, ◌&&◌, ◌||◌, and-false}
 use mathlib.Core.Logic.{◌⊎◌, inl, inr}
+use mathlib.Core.List.{[]}
 use mathlib.Core.Path.{◌≡◌, refl, subst, subst₂, sym}
 use Prim.Native.Nat.{ℕ}
 use lib.Dec.{T, eqb, eqb→eq}
 use borrow.Author.Tests.{ne_eqb}
+use Rattle.circuit.specs.declared.Record.{Record}
 use Rattle.circuit.specs.declared.Signal.TheVariants.{Rlg}
 use Rattle.circuit.proofs.Every.{left, right}
-use Rattle.ends.specs.Ends.{same_stage, awaits_reset, marks, unheard}
+use Rattle.ends.specs.Ends.{end, Agree, same_stage, awaits_reset, marks, unheard}
 
 by_cases : {X : Type 0} (a b : Bool) → (T a → X) → (T b → X) → T (a || b) → X
 by_cases true b f g t = f tt
@@ -53,6 +55,15 @@ marks_equal true true t = refl
 marks_equal true false t = absurd t
 marks_equal false true t = absurd t
 marks_equal false false t = refl
+
+-- two ends that agree, whatever their stages are called
+pub told_plainly : (P : ℕ → ℕ → Type 0) → P 0 0 → P 1 6 → P 2 7 → P 2 8 → P 3 9 → P 4 10 → (r t : Record) → Agree (end r []) (end t [])
+    → (P r.state t.state ⊎ P t.state r.state) × (t.far ≡ r.own) × (r.far ≡ t.own)
+told_plainly P idle seized complete free answered cleared r t k = (
+  at_stages_either_way P idle seized complete free answered cleared r.state t.state k.call,
+  marks_equal t.far r.own k.block_of_first,
+  marks_equal r.far t.own k.block_of_second,
+)
 
 -- RLG is heard only in 5 and 12
 pub unheard_rlg : (s : ℕ) → (s ≡ 5 → ⊥) → (s ≡ 12 → ⊥) → T (unheard s Rlg)

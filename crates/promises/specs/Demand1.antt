@@ -183,7 +183,7 @@ reader_faults own far count xs room =
     ∷ fault 11 (ltb room 23) 0
     ∷ []
 
-abbrev reader_rules : (own far count : ℕ) → (octets : List ℕ) → (room : ℕ) → List Rule
+abbrev pub reader_rules : (own far count : ℕ) → (octets : List ℕ) → (room : ℕ) → List Rule
 reader_rules own far count xs room = rules_of (reader_faults own far count xs room)
 
 -- a length that does not fit the heading: an IAM under 9 octets, an ACM not of 7, any other not of 6

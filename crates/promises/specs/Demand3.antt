@@ -32,7 +32,7 @@ use Rattle.ends.proofs.Machine.{all_lost}
 use Rattle.ends.proofs.Standing.{mirror_ends}
 use Rattle.ends.proofs.Claim.{two_ends_agree}
 use Rattle.ends.proofs.Heard.{some_never_arrive}
-use Rattle.ends.proofs.Plain.{at_stages_either_way, not_awaiting, marks_equal, opposite12, unheard_rlg, not_both}
+use Rattle.ends.proofs.Plain.{told_plainly, not_awaiting, opposite12, unheard_rlg, not_both}
 use Rattle.ends.specs.Cases.{C, N, Run, command, timer, ran_from, cases, runs, led}
 use Rattle.ends.proofs.Cases.{as_told, reached}
 
@@ -134,11 +134,7 @@ abbrev pub AgreeOn : Record → Record → Type 0
 AgreeOn r t = (SameStage r.state t.state ⊎ SameStage t.state r.state) × (t.far ≡ r.own) × (r.far ≡ t.own)
 
 abbrev pub agree_on : (r t : Record) → Agree (end r []) (end t []) → AgreeOn r t
-agree_on r t k = (
-  at_stages_either_way SameStage idle seized complete free answered cleared r.state t.state k.call,
-  marks_equal t.far r.own k.block_of_first,
-  marks_equal r.far t.own k.block_of_second,
-)
+agree_on = told_plainly SameStage idle seized complete free answered cleared
 
 -- For every circuit number and every two different point codes: whenever nothing is on its way and neither end is in 5 (awaiting release-guard) or
 -- 12 (awaiting reset), both are idle or at the same stage of one call, and each far-block mark equals the other end's own block.
@@ -147,8 +143,8 @@ pub ends_agree : (own far cic : ℕ) → (own ≡ far → ⊥)
     → (r.state ≡ 5 → ⊥) → (r.state ≡ 12 → ⊥) → (t.state ≡ 5 → ⊥) → (t.state ≡ 12 → ⊥) → AgreeOn r t
 unfolding Claim
 ends_agree own far cic different r t q r5 r12 t5 t12 =
-    let k = two_ends_agree own far cic different (end r []) (end t []) q refl refl (not_awaiting r.state r12) (not_awaiting t.state t12) in
-    (at_stages_either_way SameStage idle seized complete free answered cleared r.state t.state k.call, marks_equal t.far r.own k.block_of_first, marks_equal r.far t.own k.block_of_second)
+    told_plainly SameStage idle seized complete free answered cleared r t
+    (two_ends_agree own far cic different (end r []) (end t []) q refl refl (not_awaiting r.state r12) (not_awaiting t.state t12))
 
 -- And more: an end rests in 5 only opposite one in 12. So neither being in 12 is enough.
 pub in5_only_opposite12 : (own far cic : ℕ) → (own ≡ far → ⊥)

@@ -23,7 +23,7 @@ use Rattle.writer.specs.Writing.{said, bad_address}
 use Rattle.tup.specs.Entries.{read_into, write_from}
 use Rattle.ends.specs.Machine.{Both, When.any_time, When.in_silence, When.losing_all, when_given, none, without, Happening.arrives, Reached.start}
 use Rattle.ends.specs.Ends.{in_order, unheard}
-use Rattle.ends.proofs.Plain.{at_stages_either_way, not_awaiting, marks_equal, opposite12, unheard_rlg, not_both}
+use Rattle.ends.proofs.Plain.{told_plainly, not_awaiting, opposite12, unheard_rlg, not_both}
 use Rattle.exchanges.specs.Link.{Message, Exchange, exchange, is_about, Particulars, good, saying, chosen, writes_all, plainly, LinkStart.idle_at_both, ExchangesCome, ClaimOver}
 use Rattle.exchanges.specs.Cases.{A, B, Run, ran_from, command, quiet, two, crossing, restarting, arriving}
 use Rattle.exchanges.proofs.Sent.{sent_is_read}
@@ -166,10 +166,9 @@ pub link_agrees : (own far cic : ℕ) (t u : List ℕ) (w v : List Message) → 
     → AgreeOn (record_at t cic) (record_at u cic)
 unfolding ClaimOver
 link_agrees own far cic t u w v q nw nv t5 t12 u5 u12 =
-    let r = record_at t cic in
-    let s = record_at u cic in
-    let k = exchanges_agree own far cic (exchange t w) (exchange u v) q (both (none (is_about cic) w) (none (is_about cic) v) nw nv) (not_awaiting r.state t12) (not_awaiting s.state u12) in
-    (at_stages_either_way SameStage SameStage.idle SameStage.seized SameStage.complete SameStage.free SameStage.answered SameStage.cleared r.state s.state k.call, marks_equal s.far r.own k.block_of_first, marks_equal r.far s.own k.block_of_second)
+    told_plainly SameStage SameStage.idle SameStage.seized SameStage.complete SameStage.free SameStage.answered SameStage.cleared (record_at t cic) (record_at u cic)
+    (exchanges_agree own far cic (exchange t w) (exchange u v) q (both (none (is_about cic) w) (none (is_about cic) v) nw nv)
+    (not_awaiting (record_at t cic).state t12) (not_awaiting (record_at u cic).state u12))
 
 -- and it rests in 5 at one only if it is in 12 at the other
 pub link_in5_only_opposite12 : (own far cic : ℕ) (t u : List ℕ) (w v : List Message) → ExchangesCome own far cic (exchange t w) (exchange u v)

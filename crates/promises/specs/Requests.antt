@@ -4,7 +4,7 @@
 -- Assumes nothing.
 use Rattle.std.specs.Prelude.{◌≡◌, Bool, not, cond, ◌&&◌, ◌||◌, List, [], ◌∷◌, map, ◌↔◌, ◌⊎◌, ℕ, suc, ◌+◌, ◌%◌, ◌<◌, ◌≤◌, ◌^◌, T, eqb, leb, ltb, length}
 use Rattle.std.proofs.Math.Path.{refl}
-use Rattle.std.proofs.Common.{sym, ap, ◌∙◌, subst, arith, ne_eqb}
+use Rattle.std.proofs.Common.{sym, ap, ◌∙◌, subst, ne_eqb}
 use Rattle.std.proofs.Math.Bool.{true, false}
 use Rattle.std.proofs.Math.Logic.{inl, inr}
 use Rattle.circuit.specs.declared.Record.{Record}
@@ -47,7 +47,6 @@ use Rattle.ends.proofs.Plain.{not_both}
 use Rattle.exchanges.specs.Link.{Message, Exchange, exchange, ExchangesCome}
 use Rattle.exchanges.proofs.Over.{head_heard}
 use Rattle.promises.specs.Demand1.{event_rules}
-use Rattle.promises.specs.Demand3.{Never}
 
 -- T-01. REMEMBER WHEN A CIRCUIT WAS FREED
 
@@ -253,14 +252,6 @@ module _ (own far bla uba : Bool) (allowed : T (valid (rec 1 own far bla uba))) 
     (λ c e. rw (is, e) refl),
     (λ c e. rw (is, e) refl),
   )
-
--- each of them is among the signals that `Demand3` says never arrive in 1
-never : {s : Signal} → Nonsense s → Never s 1
-never anc = Never.answer_charged
-never ann = Never.answer_free
-never cbk = Never.clear_back
-never ran = Never.re_answer
-never rlg = Never.release_guard {p = 1} (λ e. omega arith) (λ e. omega arith)
 
 unheard_there : {s : Signal} {p : ℕ} → p ≡ 1 → Nonsense s → T (unheard p s)
 unheard_there {s} one n = subst (λ (p : ℕ). T (unheard p s)) (sym one) (go n)

@@ -35,7 +35,7 @@ use Rattle.ends.specs.Cases.{kept_command, kept_timer, KeptRun, ran_kept, kept, 
 use Rattle.ends.proofs.Machine.{all_lost}
 use Rattle.ends.proofs.Heals.{afterwards, restart_heals_all, all_arrives, repeats_first, repeats_second}
 use Rattle.ends.proofs.Calm.{waiting, not_waiting, kept_ends_agree, kept_next_heard, mirror_kept, restarted_amid}
-use Rattle.ends.proofs.Plain.{at_stages_either_way, not_awaiting, marks_equal, opposite12, unheard_rlg, not_both}
+use Rattle.ends.proofs.Plain.{told_plainly, not_awaiting, opposite12, unheard_rlg, not_both}
 use Rattle.ends.proofs.Cases.{kept_as_told, kept_reached}
 use Rattle.exchanges.specs.Link.{Message, exchange, is_about, plainly, writes_all, ExchangesCome}
 use Rattle.exchanges.proofs.Rules.{restarting}
@@ -210,8 +210,8 @@ pub kept_agree : (own far cic : ℕ) → (own ≡ far → ⊥)
     → (r.state ≡ 5 → ⊥) → (r.state ≡ 12 → ⊥) → (t.state ≡ 5 → ⊥) → (t.state ≡ 12 → ⊥) → AgreeOn r t
 unfolding ClaimKept
 kept_agree own far cic different r t k j q r5 r12 t5 t12 =
-    let agreed = kept_ends_agree own far cic different (watched r k []) (watched t j []) q refl refl (not_awaiting r.state r12) (not_awaiting t.state t12) in
-    (at_stages_either_way SameStage SameStage.idle SameStage.seized SameStage.complete SameStage.free SameStage.answered SameStage.cleared r.state t.state agreed.call, marks_equal t.far r.own agreed.block_of_first, marks_equal r.far t.own agreed.block_of_second)
+    told_plainly SameStage SameStage.idle SameStage.seized SameStage.complete SameStage.free SameStage.answered SameStage.cleared r t
+    (kept_ends_agree own far cic different (watched r k []) (watched t j []) q refl refl (not_awaiting r.state r12) (not_awaiting t.state t12))
 
 -- an end rests in 5 only opposite one in 12;
 pub kept_in5_only_opposite12 : (own far cic : ℕ) → (own ≡ far → ⊥)
