@@ -7,15 +7,15 @@ ghost use Rattle.circuit.specs.Groups.{bad_code, bad_codes, bad_group, lowest, c
 
 // A point code (0..16383) and a circuit number (CIC, 0..4095) are separate things: one never stands for the other. Each holds any 32-bit
 // number, so that a number which is out of range arrives here as it is and is refused.
-#[derive(Clone, Copy)]
+#[derive(Clone, Copy, Debug, PartialEq, Eq)]
 pub struct PointCode(pub u32);
 
-#[derive(Clone, Copy)]
+#[derive(Clone, Copy, Debug, PartialEq, Eq)]
 pub struct Cic(pub u32);
 
 // A circuit's record: the state by its number, and the flags 1 own block, 2 far block, 4 awaiting BLA, 8 awaiting UBA. This, what is sent, an
 // outcome and a row are what the definitions speak of; the program holds a record as two octets.
-#[derive(Clone, Copy)]
+#[derive(Clone, Copy, Debug, PartialEq, Eq)]
 pub struct Record {
     pub state: u8,
     pub own: bool,
@@ -25,7 +25,7 @@ pub struct Record {
 }
 
 // The signals of an unsuccessful call.
-#[derive(Clone, Copy)]
+#[derive(Clone, Copy, Debug, PartialEq, Eq)]
 pub enum Failure {
     Sec,
     Cgc,
@@ -39,7 +39,7 @@ pub enum Failure {
 }
 
 // A signal with its particulars: ACM has an octet, and the failures share a case.
-#[derive(Clone, Copy)]
+#[derive(Clone, Copy, Debug, PartialEq, Eq)]
 pub enum Signal {
     Iam,
     Acm(u8),
@@ -58,7 +58,7 @@ pub enum Signal {
 }
 
 // The type of address complete that the two lowest bits of its octet name, in their order (Q.723).
-#[derive(Clone, Copy)]
+#[derive(Clone, Copy, Debug, PartialEq, Eq)]
 pub enum AddressType {
     Plain,
     Charge,
@@ -66,14 +66,14 @@ pub enum AddressType {
     Payphone,
 }
 
-#[derive(Clone, Copy)]
+#[derive(Clone, Copy, Debug, PartialEq, Eq)]
 pub enum Charging {
     Charged,
     Free,
 }
 
 // A command with its detail: address complete says its type and whether the subscriber is free, an answer whether it is charged.
-#[derive(Clone, Copy)]
+#[derive(Clone, Copy, Debug, PartialEq, Eq)]
 pub enum Command {
     Seize,
     Release,
@@ -87,7 +87,7 @@ pub enum Command {
     Restart,
 }
 
-#[derive(Clone, Copy)]
+#[derive(Clone, Copy, Debug, PartialEq, Eq)]
 pub enum Timer {
     AddressWait,
     AnswerWait,
@@ -98,7 +98,7 @@ pub enum Timer {
 }
 
 // An event is a signal, a command or a timer, each with its own particulars.
-#[derive(Clone, Copy)]
+#[derive(Clone, Copy, Debug, PartialEq, Eq)]
 pub enum Event {
     Arrives(Signal),
     Ordered(Command),
@@ -106,7 +106,7 @@ pub enum Event {
 }
 
 // What an event sends: at most two signals, in order.
-#[derive(Clone, Copy)]
+#[derive(Clone, Copy, Debug, PartialEq, Eq)]
 pub enum Sends {
     Nothing,
     One(Signal),
@@ -114,7 +114,7 @@ pub enum Sends {
 }
 
 // What an event answers: the refusal's number, 0 where there is none; the record after it; the signals; the indication.
-#[derive(Clone, Copy)]
+#[derive(Clone, Copy, Debug, PartialEq, Eq)]
 pub struct Outcome {
     pub refusal: u8,
     pub after: Record,
@@ -123,19 +123,21 @@ pub struct Outcome {
 }
 
 // A row of a printed table: its first and its last state, its further condition; what is sent, the new record, the indication.
-#[derive(Clone, Copy)]
+#[derive(Clone, Copy, Debug, PartialEq, Eq)]
 pub struct Row(pub u8, pub u8, pub bool, pub Sends, pub Record, pub u8);
 
-pub fn both(a: bool, b: bool) -> bool
-    ensures { result ≡ (a && b) }
-{
-    if a { b } else { false }
+// What is held of a circuit, as it lies in a table: the state and the flags, an octet each. Not every two octets are a record.
+#[derive(Clone, Copy, Debug, PartialEq, Eq)]
+pub struct Held {
+    pub state: u8,
+    pub flags: u8,
 }
 
-pub fn either(a: bool, b: bool) -> bool
-    ensures { result ≡ (a || b) }
-{
-    if a { true } else { b }
+// The two point codes of a group: our own, and that of the far end.
+#[derive(Clone, Copy, Debug, PartialEq, Eq)]
+pub struct Codes {
+    pub own: PointCode,
+    pub far: PointCode,
 }
 
 fn bad_code(code: PointCode) -> bool
@@ -144,30 +146,32 @@ fn bad_code(code: PointCode) -> bool
     16383 < code.0
 }
 
-// Whether two point codes are no group's: one is too large, or they are equal.
-pub fn bad_codes(own: PointCode, far: PointCode) -> bool
-    ensures { result ≡ bad_codes own.0 far.0 }
-{
-    either(either(bad_code(own), bad_code(far)), own.0 == far.0)
-}
+impl Codes {
+    // Whether the two are no group's: one is too large, or they are equal.
+    pub fn are_bad(self) -> bool
+        ensures { result ≡ bad_codes self.own.0 self.far.0 }
+    {
+        bad_code(self.own) || bad_code(self.far) || self.own.0 == self.far.0
+    }
 
-// Whether a group is refused 1: by its codes, or by its number of records.
-pub fn bad_group(own: PointCode, far: PointCode, records: usize) -> bool
-    ensures { result ≡ bad_group own.0 far.0 records }
-{
-    either(bad_codes(own, far), either(records == 0, 4096 < records))
-}
+    // Whether a group of so many records is refused 1: by its codes, or by that number.
+    pub fn bad_group(self, records: usize) -> bool
+        ensures { result ≡ bad_group self.own.0 self.far.0 records }
+    {
+        self.are_bad() || records == 0 || 4096 < records
+    }
 
-// The lowest circuit that the end with the code `own` controls: it controls every second one from there on (Q.724, 2.5).
-pub fn lowest(own: PointCode, far: PointCode) -> u32
-    ensures { result ≡ lowest own.0 far.0 }
-{
-    if far.0 < own.0 { 0 } else { 1 }
-}
+    // The lowest circuit that our end controls: it controls every second one from there on (Q.724, 2.5).
+    pub fn lowest(self) -> u32
+        ensures { result ≡ lowest self.own.0 self.far.0 }
+    {
+        if self.far.0 < self.own.0 { 0 } else { 1 }
+    }
 
-// Whether the end with the code `own` controls the circuit.
-pub fn controls(own: PointCode, far: PointCode, cic: Cic) -> bool
-    ensures { result ≡ controls own.0 far.0 cic.0 }
-{
-    cic.0 % 2 == lowest(own, far)
+    // Whether our end controls the circuit.
+    pub fn control(self, cic: Cic) -> bool
+        ensures { result ≡ controls self.own.0 self.far.0 cic.0 }
+    {
+        cic.0 % 2 == self.lowest()
+    }
 }

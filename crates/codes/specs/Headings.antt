@@ -1,16 +1,12 @@
 -- The heading octets of the signals, H0 + 16 · H1 (Q.723; docs/RULES.md, "Events and answers").
 -- Assumes nothing.
-use Rattle.std.specs.Prelude.{cond, List, [], ◌∷◌, ℕ, eqb}
+use Rattle.std.specs.Prelude.{cond, List, [], ◌∷◌, ℕ, eqb, Option, Some, None}
 use Rattle.circuit.specs.declared.Failure.{Failure}
 use Rattle.circuit.specs.declared.Failure.TheVariants.{Sec, Cgc, Nnc, Adi, Cfl, Ssb, Unn, Los, Sst}
 use Rattle.circuit.specs.declared.Signal.{Signal}
 use Rattle.circuit.specs.declared.Signal.TheVariants.{Iam, Acm, Anc, Ann, Cbk, Clf, Ran, Rlg, Blo, Bla, Ubl, Uba, Rsc, Fail}
 use Rattle.circuit.specs.declared.Sends.{Sends}
 use Rattle.circuit.specs.declared.Sends.TheVariants.{Nothing, One, Two}
-use Rattle.codes.specs.declared.NamedFailure.{NamedFailure}
-use Rattle.codes.specs.declared.NamedFailure.TheVariants.{IsFailure, NoFailure}
-use Rattle.codes.specs.declared.Named.{Named}
-use Rattle.codes.specs.declared.Named.TheVariants.{Known, Unknown}
 
 abbrev pub failure_heading : Failure → ℕ
 failure_heading Sec = 0x15
@@ -57,34 +53,34 @@ octet_of Rsc = 0
 octet_of (Fail f) = 0
 
 -- the failure among these that has the heading
-abbrev pub among_failures : ℕ → List Failure → NamedFailure
-among_failures heading [] = NoFailure
-among_failures heading (f ∷ fs) = cond (eqb heading (failure_heading f)) (IsFailure f) (among_failures heading fs)
+abbrev pub among_failures : ℕ → List Failure → Option Failure
+among_failures heading [] = None
+among_failures heading (f ∷ fs) = cond (eqb heading (failure_heading f)) (Some f) (among_failures heading fs)
 
-abbrev pub failure_of : ℕ → NamedFailure
+abbrev pub failure_of : ℕ → Option Failure
 failure_of heading = among_failures heading (Sec ∷ Cgc ∷ Nnc ∷ Adi ∷ Cfl ∷ Ssb ∷ Unn ∷ Los ∷ Sst ∷ [])
 
-abbrev pub failing : NamedFailure → Named
-failing (IsFailure f) = Known (Fail f)
-failing NoFailure = Unknown
+abbrev pub failing : Option Failure → Option Signal
+failing (Some f) = Some (Fail f)
+failing None = None
 
 -- the signal among these that has the heading, and where there is none, the failure that has it
-abbrev pub among : ℕ → List Signal → Named
+abbrev pub among : ℕ → List Signal → Option Signal
 among heading [] = failing (failure_of heading)
-among heading (s ∷ ss) = cond (eqb heading (heading_of s)) (Known s) (among heading ss)
+among heading (s ∷ ss) = cond (eqb heading (heading_of s)) (Some s) (among heading ss)
 
 -- the signal of a heading, an ACM with the octet given
-abbrev pub signal_of : ℕ → ℕ → Named
+abbrev pub signal_of : ℕ → ℕ → Option Signal
 signal_of heading octet = among heading (Iam ∷ Acm octet ∷ Anc ∷ Ann ∷ Cbk ∷ Clf ∷ Ran ∷ Rlg ∷ Blo ∷ Bla ∷ Ubl ∷ Uba ∷ Rsc ∷ [])
 
 -- what a heading was read as, by its number: the heading, 0 where no failure or no signal has it
-abbrev pub named_failure : NamedFailure → ℕ
-named_failure (IsFailure f) = failure_heading f
-named_failure NoFailure = 0
+abbrev pub named_failure : Option Failure → ℕ
+named_failure (Some f) = failure_heading f
+named_failure None = 0
 
-abbrev pub named : Named → ℕ
-named (Known s) = heading_of s
-named Unknown = 0
+abbrev pub named : Option Signal → ℕ
+named (Some s) = heading_of s
+named None = 0
 
 -- the headings of what is sent, 0 for none
 abbrev pub first_heading : Sends → ℕ

@@ -2,29 +2,17 @@
 #![tactic(auto)]
 
 ghost use Rattle.std.specs.Prelude.{◌≡◌, ◌<◌};
-ghost use Rattle.codes.specs.Headings.{failure_heading, failure_of, failing, signal_of};
-ghost use Rattle.codes.specs.Numbers.{bare, arrives, signal_event, complete, answer, fail_with, command_event, timer_event, event_of};
+ghost use Rattle.codes.specs.Headings.{failure_heading, failure_of, signal_of};
+ghost use Rattle.codes.specs.Numbers.{bare, signal_event, complete, answer, fail_with, command_event, timer_event, event_of};
 
 use circuit::{AddressType, Charging, Command, Event, Failure, Signal, Timer};
 
-// The failure, and the signal, of a heading.
-#[derive(Clone, Copy)]
-pub enum NamedFailure {
-    IsFailure(Failure),
-    NoFailure,
-}
-
-#[derive(Clone, Copy)]
-pub enum Named {
-    Known(Signal),
-    Unknown,
-}
-
-// The event of some numbers; where there is none, that is refusal 3.
-#[derive(Clone, Copy)]
-pub enum Found {
-    Is(Event),
-    Missing,
+// An event by numbers, as a host gives it: its kind (1 signal, 2 command, 3 timer), its code and its detail.
+#[derive(Clone, Copy, Debug, PartialEq, Eq)]
+pub struct Numbers {
+    pub kind: u32,
+    pub code: u32,
+    pub detail: u32,
 }
 
 pub fn failure_heading(f: Failure) -> u8
@@ -43,133 +31,108 @@ pub fn failure_heading(f: Failure) -> u8
     }
 }
 
-pub fn failure_of(heading: u32) -> NamedFailure
+pub fn failure_of(heading: u32) -> Option<Failure>
     ensures { result ≡ failure_of heading }
 {
     match heading {
-        0x15 => NamedFailure::IsFailure(Failure::Sec),
-        0x25 => NamedFailure::IsFailure(Failure::Cgc),
-        0x35 => NamedFailure::IsFailure(Failure::Nnc),
-        0x45 => NamedFailure::IsFailure(Failure::Adi),
-        0x55 => NamedFailure::IsFailure(Failure::Cfl),
-        0x65 => NamedFailure::IsFailure(Failure::Ssb),
-        0x75 => NamedFailure::IsFailure(Failure::Unn),
-        0x85 => NamedFailure::IsFailure(Failure::Los),
-        0x95 => NamedFailure::IsFailure(Failure::Sst),
-        _ => NamedFailure::NoFailure,
-    }
-}
-
-fn failing(f: NamedFailure) -> Named
-    ensures { result ≡ failing f }
-{
-    match f {
-        NamedFailure::IsFailure(g) => Named::Known(Signal::Fail(g)),
-        NamedFailure::NoFailure => Named::Unknown,
+        0x15 => Some(Failure::Sec),
+        0x25 => Some(Failure::Cgc),
+        0x35 => Some(Failure::Nnc),
+        0x45 => Some(Failure::Adi),
+        0x55 => Some(Failure::Cfl),
+        0x65 => Some(Failure::Ssb),
+        0x75 => Some(Failure::Unn),
+        0x85 => Some(Failure::Los),
+        0x95 => Some(Failure::Sst),
+        _ => None,
     }
 }
 
 // The signal that has the heading, an ACM with the octet given.
-pub fn signal_of(heading: u32, octet: u8) -> Named
+pub fn signal_of(heading: u32, octet: u8) -> Option<Signal>
     ensures { result ≡ signal_of heading octet }
 {
     match heading {
-        0x11 => Named::Known(Signal::Iam),
-        0x14 => Named::Known(Signal::Acm(octet)),
-        0x16 => Named::Known(Signal::Anc),
-        0x26 => Named::Known(Signal::Ann),
-        0x36 => Named::Known(Signal::Cbk),
-        0x46 => Named::Known(Signal::Clf),
-        0x56 => Named::Known(Signal::Ran),
-        0x17 => Named::Known(Signal::Rlg),
-        0x27 => Named::Known(Signal::Blo),
-        0x37 => Named::Known(Signal::Bla),
-        0x47 => Named::Known(Signal::Ubl),
-        0x57 => Named::Known(Signal::Uba),
-        0x77 => Named::Known(Signal::Rsc),
-        _ => failing(failure_of(heading)),
+        0x11 => Some(Signal::Iam),
+        0x14 => Some(Signal::Acm(octet)),
+        0x16 => Some(Signal::Anc),
+        0x26 => Some(Signal::Ann),
+        0x36 => Some(Signal::Cbk),
+        0x46 => Some(Signal::Clf),
+        0x56 => Some(Signal::Ran),
+        0x17 => Some(Signal::Rlg),
+        0x27 => Some(Signal::Blo),
+        0x37 => Some(Signal::Bla),
+        0x47 => Some(Signal::Ubl),
+        0x57 => Some(Signal::Uba),
+        0x77 => Some(Signal::Rsc),
+        _ => failure_of(heading).map(Signal::Fail),
     }
 }
 
 // An event whose only detail is 0.
-fn bare(detail: u32, e: Event) -> Found
+fn bare(detail: u32, e: Event) -> Option<Event>
     ensures { result ≡ bare detail e }
 {
-    if detail == 0 {
-        Found::Is(e)
-    } else {
-        Found::Missing
-    }
-}
-
-fn arrives(n: Named) -> Found
-    ensures { result ≡ arrives n }
-{
-    match n {
-        Named::Known(s) => Found::Is(Event::Arrives(s)),
-        Named::Unknown => Found::Missing,
-    }
+    if detail == 0 { Some(e) } else { None }
 }
 
 // A signal with a detail that is not 0: an ACM with its octet.
-fn with_octet(code: u32, detail: u32) -> Found
+fn with_octet(code: u32, detail: u32) -> Option<Event>
     requires { 0 < detail }
     ensures { result ≡ signal_event code detail }
 {
     if 255 < detail {
-        return Found::Missing;
+        return None;
     }
     if code == 0x14 {
-        return Found::Is(Event::Arrives(Signal::Acm(detail as u8)));
+        return Some(Event::Arrives(Signal::Acm(detail as u8)));
     }
-    Found::Missing
+    None
 }
 
-fn signal_event(code: u32, detail: u32) -> Found
+fn signal_event(code: u32, detail: u32) -> Option<Event>
     ensures { result ≡ signal_event code detail }
 {
     if 0 < detail {
         return with_octet(code, detail);
     }
-    arrives(signal_of(code, 0))
+    Some(Event::Arrives(signal_of(code, 0)?))
 }
 
-fn complete(detail: u32) -> Found
+fn complete(detail: u32) -> Option<Event>
     ensures { result ≡ complete detail }
 {
     match detail {
-        0 => Found::Is(Event::Ordered(Command::AddressComplete(AddressType::Plain, false))),
-        1 => Found::Is(Event::Ordered(Command::AddressComplete(AddressType::Charge, false))),
-        2 => Found::Is(Event::Ordered(Command::AddressComplete(AddressType::NoCharge, false))),
-        3 => Found::Is(Event::Ordered(Command::AddressComplete(AddressType::Payphone, false))),
-        4 => Found::Is(Event::Ordered(Command::AddressComplete(AddressType::Plain, true))),
-        5 => Found::Is(Event::Ordered(Command::AddressComplete(AddressType::Charge, true))),
-        6 => Found::Is(Event::Ordered(Command::AddressComplete(AddressType::NoCharge, true))),
-        7 => Found::Is(Event::Ordered(Command::AddressComplete(AddressType::Payphone, true))),
-        _ => Found::Missing,
+        0 => Some(Event::Ordered(Command::AddressComplete(AddressType::Plain, false))),
+        1 => Some(Event::Ordered(Command::AddressComplete(AddressType::Charge, false))),
+        2 => Some(Event::Ordered(Command::AddressComplete(AddressType::NoCharge, false))),
+        3 => Some(Event::Ordered(Command::AddressComplete(AddressType::Payphone, false))),
+        4 => Some(Event::Ordered(Command::AddressComplete(AddressType::Plain, true))),
+        5 => Some(Event::Ordered(Command::AddressComplete(AddressType::Charge, true))),
+        6 => Some(Event::Ordered(Command::AddressComplete(AddressType::NoCharge, true))),
+        7 => Some(Event::Ordered(Command::AddressComplete(AddressType::Payphone, true))),
+        _ => None,
     }
 }
 
-fn answer(detail: u32) -> Found
+fn answer(detail: u32) -> Option<Event>
     ensures { result ≡ answer detail }
 {
     match detail {
-        0 => Found::Is(Event::Ordered(Command::Answer(Charging::Charged))),
-        1 => Found::Is(Event::Ordered(Command::Answer(Charging::Free))),
-        _ => Found::Missing,
+        0 => Some(Event::Ordered(Command::Answer(Charging::Charged))),
+        1 => Some(Event::Ordered(Command::Answer(Charging::Free))),
+        _ => None,
     }
 }
 
-fn fail_with(f: NamedFailure) -> Found
-    ensures { result ≡ fail_with f }
+fn fail_with(heading: u32) -> Option<Event>
+    ensures { result ≡ fail_with (failure_of heading) }
 {
-    match f {
-        NamedFailure::IsFailure(g) => Found::Is(Event::Ordered(Command::FailCall(g))),
-        NamedFailure::NoFailure => Found::Missing,
-    }
+    Some(Event::Ordered(Command::FailCall(failure_of(heading)?)))
 }
 
-fn command_event(code: u32, detail: u32) -> Found
+fn command_event(code: u32, detail: u32) -> Option<Event>
     ensures { result ≡ command_event code detail }
 {
     match code {
@@ -179,15 +142,15 @@ fn command_event(code: u32, detail: u32) -> Found
         4 => answer(detail),
         5 => bare(detail, Event::Ordered(Command::ClearBack)),
         6 => bare(detail, Event::Ordered(Command::ReAnswer)),
-        7 => fail_with(failure_of(detail)),
+        7 => fail_with(detail),
         8 => bare(detail, Event::Ordered(Command::Block)),
         9 => bare(detail, Event::Ordered(Command::Unblock)),
         10 => bare(detail, Event::Ordered(Command::Restart)),
-        _ => Found::Missing,
+        _ => None,
     }
 }
 
-fn timer_event(code: u32, detail: u32) -> Found
+fn timer_event(code: u32, detail: u32) -> Option<Event>
     ensures { result ≡ timer_event code detail }
 {
     match code {
@@ -197,18 +160,18 @@ fn timer_event(code: u32, detail: u32) -> Found
         4 => bare(detail, Event::RunsOut(Timer::Repeat)),
         5 => bare(detail, Event::RunsOut(Timer::OneMinute)),
         6 => bare(detail, Event::RunsOut(Timer::BlockRepeat)),
-        _ => Found::Missing,
+        _ => None,
     }
 }
 
-// The event of a kind (1 signal, 2 command, 3 timer), a code and a detail.
-pub fn event_of(kind: u32, code: u32, detail: u32) -> Found
-    ensures { result ≡ event_of kind code detail }
+// The event of these numbers; where there is none, that is refusal 3.
+pub fn event_of(n: Numbers) -> Option<Event>
+    ensures { result ≡ event_of n.kind n.code n.detail }
 {
-    match kind {
-        1 => signal_event(code, detail),
-        2 => command_event(code, detail),
-        3 => timer_event(code, detail),
-        _ => Found::Missing,
+    match n.kind {
+        1 => signal_event(n.code, n.detail),
+        2 => command_event(n.code, n.detail),
+        3 => timer_event(n.code, n.detail),
+        _ => None,
     }
 }

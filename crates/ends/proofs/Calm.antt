@@ -1,5 +1,7 @@
 -- The theorem under the rule that a host can keep: two ends of one circuit agree whenever nothing is on its way and neither awaits reset.
 -- Assumes nothing.
+use Rattle.std.specs.Prelude.{Option, Some}
+use Rattle.circuit.specs.declared.Event.{Event}
 use mathlib.Core.Bool.{Bool, true, false, cond, not}
 use mathlib.Core.List.{List, [], ◌∷◌, ◌++◌, append-nil}
 use mathlib.Core.Logic.{◌⊎◌, inl, inr}
@@ -17,8 +19,6 @@ use Rattle.circuit.specs.Records.{valid, restarted as forgotten}
 use Rattle.circuit.specs.Rows.{answered}
 use Rattle.circuit.specs.Groups.{controls}
 use Rattle.circuit.proofs.Groups.{one_controls}
-use Rattle.codes.specs.declared.Found.{Found}
-use Rattle.codes.specs.declared.Found.TheVariants.{Is}
 use Rattle.step.specs.Step.{step_found}
 use Rattle.step.proofs.Erred.{restart_forgets}
 use Rattle.ends.specs.Machine.{Both, acted, arrival, When.any_time, When.never, silence, given, Happening, Happening.arrives, Happening.host, turn, after, Reached.start, Reached.at_second}
@@ -81,7 +81,7 @@ module _ (c : Bool) where
     abbrev r : Record
     r = me.holds.of
 
-    keeps_event : (e : Found) → KeepsPair c (given (kept_acts c) (cond (ready k (leave r e)) any_time never) (event e) me other)
+    keeps_event : (e : Option Event) → KeepsPair c (given (kept_acts c) (cond (ready k (leave r e)) any_time never) (event e) me other)
     keeps_event e = by (ready k (leave r e)) (λ h. record {
       blocks = hosted c (bare other) (bare me) i.blocks e (calm_ready k (leave r e) h);
       stands = gets c k j (bare me) (bare other) i.blocks.mine i.stands e h;
@@ -152,7 +152,7 @@ module _ (a b : Bool) (r : Record) (v : T (valid r)) where
   abbrev Comes : Both Watched Signal → Type 0
   Comes p = KeptCome a b p.0 p.1
 
-  resets : does a r (Is (Ordered Restart)) ≡ answered forgotten (One Rsc) 0
+  resets : does a r (Some (Ordered Restart)) ≡ answered forgotten (One Rsc) 0
   unfolding does step_found
   resets = restart_forgets a r v
 
@@ -160,7 +160,7 @@ module _ (a b : Bool) (r : Record) (v : T (valid r)) where
       → Comes (after (kept_acts a) (kept_acts b) (watched r true q, watched t j []) (by_other []))
   at_last q t j c = rw resets c
 
-  amid : (events : List Found) (q : List Signal) (t : Record) (j : Bool) → Comes (watched forgotten false q, watched t j (Rsc ∷ []))
+  amid : (events : List (Option Event)) (q : List Signal) (t : Record) (j : Bool) → Comes (watched forgotten false q, watched t j (Rsc ∷ []))
       → Comes (after (kept_acts a) (kept_acts b) (watched r true q, watched t j []) (by_other events))
   amid [] q t j c = at_last q t j c
   amid (e ∷ events) q t j c = by (ready j (leave t e)) (at_second c (host (event e))) (λ q t j k. amid events q t j k)
@@ -174,7 +174,7 @@ module _ (a b : Bool) (r : Record) (v : T (valid r)) where
       by true k ih = ih (q ++ in_order (does b t e).sends) (does b t e).after (still (in_order (does b t e).sends) j) k
       by false k ih = ih q t j k
 
-  pub restarted_amid : (t : Record) → T (valid t) → (events : List Found) → Comes (after (kept_acts a) (kept_acts b) (watched r true [], watched t true []) (by_other events))
+  pub restarted_amid : (t : Record) → T (valid t) → (events : List (Option Event)) → Comes (after (kept_acts a) (kept_acts b) (watched r true [], watched t true []) (by_other events))
   restarted_amid t w events = amid events [] t true (rw resets at first)
     where
       first : Comes (turn (kept_acts a) (host cut) (watched r true []) (watched t true []))

@@ -1,5 +1,7 @@
 -- Every valid record and every event, as finite lists: a test that is computed at each of them holds of all.
 -- Assumes nothing.
+use Rattle.std.specs.Prelude.{Option, Some, None}
+use Rattle.circuit.specs.declared.Event.{Event}
 use mathlib.Core.Bool.{Bool, true, false, ◌&&◌}
 use mathlib.Core.List.{List, [], ◌∷◌}
 use mathlib.Core.Path.{◌≡◌, refl}
@@ -23,8 +25,6 @@ use Rattle.circuit.specs.Records.{rec, valid}
 use Rattle.circuit.specs.Rows.{first}
 use Rattle.circuit.specs.Every.{implies, each_below}
 use Rattle.circuit.proofs.Every.{left, right, then, each_bool, at_bool, at_below}
-use Rattle.codes.specs.declared.Found.{Found}
-use Rattle.codes.specs.declared.Found.TheVariants.{Is, Missing}
 use Rattle.step.specs.Step.{step, step_found}
 use Rattle.ends.specs.Ends.{does}
 use Rattle.ends.proofs.Words.{word, words, all_in, has, at_has}
@@ -69,7 +69,7 @@ abbrev pub said : ℕ → Signal
 said k = get_or (Iam ∷ Acm 0 ∷ Anc ∷ Cbk ∷ Ran ∷ Fail Sec ∷ Clf ∷ Rlg ∷ Rsc ∷ Blo ∷ Ubl ∷ Bla ∷ Uba ∷ []) k Iam
 
 -- the particulars of a signal, and whether an answer is charged, change nothing
-pub alike : (c : Bool) (r : Record) (x : Signal) → does c r (Is (Arrives x)) ≡ does c r (Is (Arrives (said (word x))))
+pub alike : (c : Bool) (r : Record) (x : Signal) → does c r (Some (Arrives x)) ≡ does c r (Some (Arrives (said (word x))))
 unfolding does step_found step first
 alike c r Iam = refl
 alike c r (Acm octet) = refl
@@ -88,21 +88,21 @@ alike c r Uba = refl
 
 -- what the host can give: commands with their details, timers, and numbers that name neither
 
-abbrev ordered : Command → Found
-ordered k = Is (Ordered k)
+abbrev ordered : Command → Option Event
+ordered k = Some (Ordered k)
 
-abbrev complete : AddressType → Bool → Found
+abbrev complete : AddressType → Bool → Option Event
 complete t free = ordered (AddressComplete t free)
 
-abbrev failing : Failure → Found
+abbrev failing : Failure → Option Event
 failing f = ordered (FailCall f)
 
-abbrev runs_out : Timer → Found
-runs_out t = Is (RunsOut t)
+abbrev runs_out : Timer → Option Event
+runs_out t = Some (RunsOut t)
 
-abbrev pub host_events : List Found
+abbrev pub host_events : List (Option Event)
 host_events =
-    Missing
+    None
     ∷ ordered Seize ∷ ordered Release ∷ ordered ClearBack ∷ ordered ReAnswer ∷ ordered Block ∷ ordered Unblock ∷ ordered Restart
     ∷ ordered (Answer Charged) ∷ ordered (Answer Free)
     ∷ complete Plain true ∷ complete Plain false ∷ complete Charge true ∷ complete Charge false
@@ -111,14 +111,14 @@ host_events =
     ∷ runs_out AddressWait ∷ runs_out AnswerWait ∷ runs_out IncomingHangUp ∷ runs_out Repeat ∷ runs_out OneMinute ∷ runs_out BlockRepeat
     ∷ []
 
-at_place : (f : Found → Bool) (l : List Found) (n : ℕ) → T (f Missing) → T (all_in f l) → T (f (get_or l n Missing))
+at_place : (f : Option Event → Bool) (l : List (Option Event)) (n : ℕ) → T (f None) → T (all_in f l) → T (f (get_or l n None))
 at_place f [] n h t = h
 at_place f (x ∷ l) zero h t = left (f x) (all_in f l) t
 at_place f (x ∷ l) (suc n) h t = at_place f l n h (right (f x) (all_in f l) t)
 
-module _ (f : Found → Bool) (t : T (all_in f host_events)) where
-  place : (n : ℕ) → T (f (get_or host_events n Missing))
-  place n = at_place f host_events n (left (f Missing) _ t) t
+module _ (f : Option Event → Bool) (t : T (all_in f host_events)) where
+  place : (n : ℕ) → T (f (get_or host_events n None))
+  place n = at_place f host_events n (left (f None) _ t) t
 
   at_failure : (g : Failure) → T (f (failing g))
   at_failure Sec = place 18
@@ -141,7 +141,7 @@ module _ (f : Found → Bool) (t : T (all_in f host_events)) where
   at_complete Payphone true = place 16
   at_complete Payphone false = place 17
 
-  at_command : (k : Command) → T (f (Is (Ordered k)))
+  at_command : (k : Command) → T (f (Some (Ordered k)))
   at_command Seize = place 1
   at_command Release = place 2
   at_command ClearBack = place 3
@@ -154,7 +154,7 @@ module _ (f : Found → Bool) (t : T (all_in f host_events)) where
   at_command (AddressComplete a free) = at_complete a free
   at_command (FailCall g) = at_failure g
 
-  at_timer : (k : Timer) → T (f (Is (RunsOut k)))
+  at_timer : (k : Timer) → T (f (Some (RunsOut k)))
   at_timer AddressWait = place 27
   at_timer AnswerWait = place 28
   at_timer IncomingHangUp = place 29
@@ -163,11 +163,11 @@ module _ (f : Found → Bool) (t : T (all_in f host_events)) where
   at_timer BlockRepeat = place 32
 
   -- a test that asks nothing of signals, which the host does not give
-  pub at_host_event : ((x : Signal) → T (f (Is (Arrives x)))) → (e : Found) → T (f e)
-  at_host_event k (Is (Arrives x)) = k x
-  at_host_event k (Is (Ordered o)) = at_command o
-  at_host_event k (Is (RunsOut o)) = at_timer o
-  at_host_event k Missing = place 0
+  pub at_host_event : ((x : Signal) → T (f (Some (Arrives x)))) → (e : Option Event) → T (f e)
+  at_host_event k (Some (Arrives x)) = k x
+  at_host_event k (Some (Ordered o)) = at_command o
+  at_host_event k (Some (RunsOut o)) = at_timer o
+  at_host_event k None = place 0
 
 -- both: p at every word that arrives, q at what the host gives, in either role with every valid record
 pub is_word : (x : Signal) → T (has (word x) words)
@@ -186,7 +186,7 @@ is_word Ubl = tt
 is_word Bla = tt
 is_word Uba = tt
 
-module _ (p : Bool → Record → ℕ → Bool) (q : Bool → Record → Found → Bool) where
+module _ (p : Bool → Record → ℕ → Bool) (q : Bool → Record → Option Event → Bool) where
   abbrev pub every_event : Bool → Record → Bool
   every_event c r = all_in (p c r) words && all_in (q c r) host_events
 
@@ -200,5 +200,5 @@ module _ (p : Bool → Record → ℕ → Bool) (q : Bool → Record → Found �
     pub at_word : (x : Signal) → T (p c r (word x))
     at_word x = at_has (p c r) words (word x) (is_word x) (left (all_in (p c r) words) _ here)
 
-    pub at_host : ((x : Signal) → T (q c r (Is (Arrives x)))) → (e : Found) → T (q c r e)
+    pub at_host : ((x : Signal) → T (q c r (Some (Arrives x)))) → (e : Option Event) → T (q c r e)
     at_host k e = at_host_event (q c r) (right (all_in (p c r) words) _ here) k e

@@ -1,6 +1,8 @@
 -- A restart heals: after it the end that restarted is in 12 and an RSC is on its way, so one test over the other end's records and all orders in
 -- which signals can arrive decides.
 -- Assumes nothing.
+use Rattle.std.specs.Prelude.{Option, Some}
+use Rattle.circuit.specs.declared.Event.{Event}
 use mathlib.Core.Bool.{Bool, true, false, not, ◌&&◌, ◌||◌}
 use mathlib.Core.List.{List, [], ◌∷◌, ◌++◌}
 use mathlib.Core.Logic.{◌⊎◌, inl, inr}
@@ -17,8 +19,6 @@ use Rattle.circuit.specs.Rows.{first}
 use Rattle.circuit.specs.Groups.{controls}
 use Rattle.circuit.proofs.Groups.{one_controls}
 use Rattle.circuit.proofs.Every.{left, right, each_bool, at_bool}
-use Rattle.codes.specs.declared.Found.{Found}
-use Rattle.codes.specs.declared.Found.TheVariants.{Is}
 use Rattle.step.specs.Step.{step, step_found}
 use Rattle.step.proofs.Erred.{restart_forgets}
 use Rattle.ends.specs.Machine.{none, Happening.host, after}
@@ -33,11 +33,11 @@ module _ (c : Bool) (P : Record → Record → Bool) where
   abbrev in_every_order : (n : ℕ) → Record → List Signal → Record → List Signal → Bool
   in_every_order zero r w t v = false
   in_every_order (suc n) r [] t [] = P r t
-  in_every_order (suc n) r (s ∷ w) t [] = let o = does c r (Is (Arrives s)) in in_every_order n o.after w t (in_order o.sends)
-  in_every_order (suc n) r [] t (u ∷ v) = let o = does (not c) t (Is (Arrives u)) in in_every_order n r (in_order o.sends) o.after v
+  in_every_order (suc n) r (s ∷ w) t [] = let o = does c r (Some (Arrives s)) in in_every_order n o.after w t (in_order o.sends)
+  in_every_order (suc n) r [] t (u ∷ v) = let o = does (not c) t (Some (Arrives u)) in in_every_order n r (in_order o.sends) o.after v
   in_every_order (suc n) r (s ∷ w) t (u ∷ v) =
-      let o = does c r (Is (Arrives s)) in
-      let q = does (not c) t (Is (Arrives u)) in
+      let o = does c r (Some (Arrives s)) in
+      let q = does (not c) t (Some (Arrives u)) in
       in_every_order n o.after w t ((u ∷ v) ++ in_order o.sends) && in_every_order n r ((s ∷ w) ++ in_order q.sends) q.after v
 
   abbrev Ends : Pair → Type 0
@@ -55,19 +55,19 @@ module _ (c : Bool) (P : Record → Record → Bool) where
   orderly (true ∷ order) n r [] t v h q = orderly order n r [] t v h q
   orderly (true ∷ order) zero r (s ∷ w) t v h q = absurd h
   orderly (true ∷ order) (suc n) r (s ∷ w) t [] h q =
-      let o = does c r (Is (Arrives s)) in
+      let o = does c r (Some (Arrives s)) in
       orderly order n o.after w t (in_order o.sends) h q
   orderly (true ∷ order) (suc n) r (s ∷ w) t (u ∷ v) h q =
-      let o = does c r (Is (Arrives s)) in
+      let o = does c r (Some (Arrives s)) in
       orderly order n o.after w t ((u ∷ v) ++ in_order o.sends) (left (in_every_order n o.after w t ((u ∷ v) ++ in_order o.sends)) _ h) q
   orderly (false ∷ order) n r w t [] h q = orderly order n r w t [] h q
   orderly (false ∷ order) zero r w t (u ∷ v) h q = absurd h
   orderly (false ∷ order) (suc n) r [] t (u ∷ v) h q =
-      let o = does (not c) t (Is (Arrives u)) in
+      let o = does (not c) t (Some (Arrives u)) in
       orderly order n r (in_order o.sends) o.after v h q
   orderly (false ∷ order) (suc n) r (s ∷ w) t (u ∷ v) h q =
-      let o = does c r (Is (Arrives s)) in
-      let p = does (not c) t (Is (Arrives u)) in
+      let o = does c r (Some (Arrives s)) in
+      let p = does (not c) t (Some (Arrives u)) in
       orderly order n r ((s ∷ w) ++ in_order p.sends) p.after v (right (in_every_order n o.after w t ((u ∷ v) ++ in_order o.sends)) _ h) q
 
 -- both idle, and the marks are right
@@ -214,8 +214,8 @@ module _ (a b : Bool) (r t : Record) where
   abbrev quiet_pair : Pair
   quiet_pair = (end r [], end t [])
 
-  abbrev timer4 : Found
-  timer4 = Is (RunsOut Repeat)
+  abbrev timer4 : Option Event
+  timer4 = Some (RunsOut Repeat)
 
   pub repeats_first : first_repeats quiet_pair ≡ true
       → repeated a b quiet_pair ≡ (end (step_found a r timer4).after [], end t (in_order (step_found a r timer4).sends))

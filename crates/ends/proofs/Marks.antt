@@ -2,6 +2,8 @@
 -- way to the other, which will then say its block again. And records stay valid.
 -- What an event does to the marks is one test over all records and events, and what a restart does by which everything is lost, another.
 -- Assumes nothing.
+use Rattle.std.specs.Prelude.{Option, Some}
+use Rattle.circuit.specs.declared.Event.{Event}
 use mathlib.Core.Bool.{Bool, true, false, cond, not, ◌&&◌, ◌||◌}
 use mathlib.Core.List.{List, [], ◌∷◌, ◌++◌}
 use mathlib.Core.Path.{◌≡◌, refl}
@@ -16,8 +18,6 @@ use Rattle.circuit.specs.Records.{valid}
 use Rattle.circuit.specs.Rows.{first}
 use Rattle.circuit.specs.Every.{implies}
 use Rattle.circuit.proofs.Every.{left, right, then, each_bool, at_bool}
-use Rattle.codes.specs.declared.Found.{Found}
-use Rattle.codes.specs.declared.Found.TheVariants.{Is}
 use Rattle.step.specs.Step.{step, step_found}
 use Rattle.ends.specs.Machine.{acted}
 use Rattle.ends.specs.Ends.{End, end, Pair, in_order, does, seen, marks}
@@ -89,10 +89,10 @@ abbrev clears : Bool → Outcome → Bool
 clears m o = in_step o.after.own (told m (words_of o)) false && (valid o.after && (not o.after.far && reset_in (words_of o)))
 
 abbrev word_keeps : Bool → Record → ℕ → Bool
-word_keeps c r k = each_bool (λ m. each_bool (λ z. keeps r m (eqb k rsc || z) z (marked r.far k) (does c r (Is (Arrives (said k))))))
+word_keeps c r k = each_bool (λ m. each_bool (λ z. keeps r m (eqb k rsc || z) z (marked r.far k) (does c r (Some (Arrives (said k))))))
 
 -- whatever the host gives, a restart by which nothing is lost among it
-abbrev host_keeps : Bool → Record → Found → Bool
+abbrev host_keeps : Bool → Record → Option Event → Bool
 host_keeps c r e = implies (ready true (leave r e)) (each_bool (λ m. each_bool (λ z. keeps r m z z r.far (does c r e))))
 
 kept_in_step : T (everywhere word_keeps host_keeps)
@@ -100,7 +100,7 @@ unfolding does step_found step first
 kept_in_step = tt
 
 abbrev restart_clears : Bool → Record → Bool
-restart_clears c r = each_bool (λ m. clears m (does c r (Is (Ordered Restart))))
+restart_clears c r = each_bool (λ m. clears m (does c r (Some (Ordered Restart))))
 
 cleared : T (each_bool (λ c. each_record (restart_clears c)))
 unfolding does step_found step first
@@ -167,18 +167,18 @@ module _ (c : Bool) (other : End) where
   N = told other.holds.far (heard other.coming)
 
   -- a signal arrives
-  pub arrived : (r : Record) (x : Signal) (rest : List Signal) → Marks (end r (x ∷ rest)) other → MarksPair (acted (seen (does c r (Is (Arrives x)))) rest other)
-  arrived r x rest i = keeps_marks r (eqb (word x) rsc || Z) rest (marked r.far (word x)) other (does c r (Is (Arrives x))) i.there i.back i.yours
+  pub arrived : (r : Record) (x : Signal) (rest : List Signal) → Marks (end r (x ∷ rest)) other → MarksPair (acted (seen (does c r (Some (Arrives x)))) rest other)
+  arrived r x rest i = keeps_marks r (eqb (word x) rsc || Z) rest (marked r.far (word x)) other (does c r (Some (Arrives x))) i.there i.back i.yours
       (rw (alike c r x) (at_bool (keeping N) (at_bool (λ m. each_bool (keeping m)) (at_word word_keeps host_keeps kept_in_step c r i.mine x) N) Z))
     where
       Z : Bool
       Z = reset_in (heard rest)
 
       keeping : Bool → Bool → Bool
-      keeping m z = keeps r m (eqb (word x) rsc || z) z (marked r.far (word x)) (does c r (Is (Arrives (said (word x)))))
+      keeping m z = keeps r m (eqb (word x) rsc || z) z (marked r.far (word x)) (does c r (Some (Arrives (said (word x)))))
 
   -- the host gives an event, and nothing is lost
-  pub hosted : (me : End) → Marks me other → (e : Found) → T (ready true (leave me.holds e)) → MarksPair (acted (seen (does c me.holds e)) me.coming other)
+  pub hosted : (me : End) → Marks me other → (e : Option Event) → T (ready true (leave me.holds e)) → MarksPair (acted (seen (does c me.holds e)) me.coming other)
   hosted me i e given = keeps_marks r (reset_in (heard me.coming)) me.coming r.far other (does c r e) i.there i.back i.yours
       (at_bool (keeping N) (at_bool (λ m. each_bool (keeping m)) test N) (reset_in (heard me.coming)))
     where
@@ -192,7 +192,7 @@ module _ (c : Bool) (other : End) where
       test = then (ready true (leave r e)) _ (at_host word_keeps host_keeps kept_in_step c r i.mine (λ x. tt) e) given
 
   -- a restart by which everything is lost, so that it asks nothing of what was before
-  pub restarted : (r : Record) → T (valid r) → T (valid other.holds) → MarksPair (acted (seen (does c r (Is (Ordered Restart)))) [] (end other.holds []))
+  pub restarted : (r : Record) → T (valid r) → T (valid other.holds) → MarksPair (acted (seen (does c r (Some (Ordered Restart)))) [] (end other.holds []))
   restarted r mine yours = record {
     there = left (in_step o.after.own (told other.holds.far (words_of o)) false) _ one;
     back = by other.holds.own o.after.far (reset_in (words_of o)) (right (valid o.after) _ two);
@@ -201,7 +201,7 @@ module _ (c : Bool) (other : End) where
   }
     where
       o : Outcome
-      o = does c r (Is (Ordered Restart))
+      o = does c r (Some (Ordered Restart))
 
       one : T (clears other.holds.far o)
       one = at_bool (λ m. clears m o) (at_record (restart_clears c) (at_bool (λ c. each_record (restart_clears c)) cleared c) r mine) other.holds.far

@@ -1,6 +1,8 @@
 -- Two ends that are reached stand in a room of the list, whatever happened, and their marks are in step. First what each happening does to two ends
 -- that know whether they are calm; then the ends of `Ends`, which do not. Those of `Calm` have a file of their own.
 -- Assumes nothing.
+use Rattle.std.specs.Prelude.{Option, Some, None}
+use Rattle.circuit.specs.declared.Event.{Event}
 use mathlib.Core.Bool.{Bool, true, false, cond, not, ◌&&◌}
 use mathlib.Core.List.{List, [], ◌∷◌, ◌++◌}
 use mathlib.Core.Path.{◌≡◌, refl, sym, subst}
@@ -17,8 +19,6 @@ use Rattle.circuit.specs.Every.{implies}
 use Rattle.circuit.specs.Groups.{controls}
 use Rattle.circuit.proofs.Groups.{one_controls}
 use Rattle.circuit.proofs.Every.{left, right}
-use Rattle.codes.specs.declared.Found.{Found}
-use Rattle.codes.specs.declared.Found.TheVariants.{Is, Missing}
 use Rattle.ends.specs.Machine.{acted, arrival, when_given, none, silence, given, Happening, Happening.arrives, Happening.host, turn}
 use Rattle.ends.specs.Ends.{End, end, idle, Pair, in_order, does, seen, end_acts, restart, Start, Start.both_idle, Start.first_restarted, Start.second_restarted, EndsCome}
 use Rattle.ends.specs.Calm.{still, Leave, Leave.at_once, Leave.once_calm, Leave.withheld, waits, leave, ready}
@@ -99,7 +99,7 @@ landed c k j o rest other h f g = record { calls = rw more h; of_first = rw more
 module _ (c : Bool) where
   -- a signal arrives: the other end has sent it, so that one is not calm
   pub takes : (k j : Bool) (r : Record) (x : Signal) (rest : List Signal) (other : End) → T (valid r) → Stand c k (end r (x ∷ rest)) j other
-      → StandPair c false j (acted (seen (does c r (Is (Arrives x)))) rest other)
+      → StandPair c false j (acted (seen (does c r (Some (Arrives x)))) rest other)
   unfolding table
   takes k true r x rest other v i = absurd i.of_second
   takes k false r x rest other v i = landed c false false o rest other
@@ -107,10 +107,10 @@ module _ (c : Bool) where
       (word_listed_lem table completed c r v x)) tt tt
     where
       o : Outcome
-      o = does c r (Is (Arrives x))
+      o = does c r (Some (Arrives x))
 
   -- the host gives an event
-  module _ (k j : Bool) (me other : End) (v : T (valid me.holds)) (i : Stand c k me j other) (e : Found) where
+  module _ (k j : Bool) (me other : End) (v : T (valid me.holds)) (i : Stand c k me j other) (e : Option Event) where
     abbrev o : Outcome
     o = does c me.holds e
 
@@ -135,8 +135,8 @@ module _ (c : Bool) where
 
   -- a restart by which everything is lost, so that it asks nothing of what was before: a run may start with it
   pub loses : (j : Bool) (r : Record) (other : End) → T (valid r) → T (valid other.holds)
-      → StandPair c false j (acted (seen (does c r (Is (Ordered Restart)))) [] (end other.holds []))
-  loses j r other v w = landed c false j (does c r (Is (Ordered Restart))) [] (end other.holds [])
+      → StandPair c false j (acted (seen (does c r (Some (Ordered Restart)))) [] (end other.holds []))
+  loses j r other v w = landed c false j (does c r (Some (Ordered Restart))) [] (end other.holds [])
       (subst (λ (m : Move). Lands rooms c false [] j (state_of other) [] m) (sym (restart_moves c r v))
       (cut_listed_lem rooms listed_starts c j (state_of other) (below other.holds w))) tt (nothing_there j)
 
@@ -217,7 +217,7 @@ module _ (c : Bool) where
     v = i.blocks.mine
 
     -- the host gives an event to an end that is calm or not, as k tells
-    gives : (k : Bool) → Stand c k me i.second_calm other → (e : Found) → T (ready k (leave r e)) → HoldsPair c (acted (seen (does c r e)) me.coming other)
+    gives : (k : Bool) → Stand c k me i.second_calm other → (e : Option Event) → T (ready k (leave r e)) → HoldsPair c (acted (seen (does c r e)) me.coming other)
     gives k s e h = record {
       blocks = hosted c other me i.blocks e (calm_ready k (leave r e) h);
       first_calm = still (in_order (does c r e).sends) k;
@@ -225,10 +225,10 @@ module _ (c : Bool) where
       stands = gets c k i.second_calm me other v s e h;
     }
 
-    freely : (e : Found) → T (ready i.first_calm (leave r e)) → HoldsPair c (acted (seen (does c r e)) me.coming other)
+    freely : (e : Option Event) → T (ready i.first_calm (leave r e)) → HoldsPair c (acted (seen (does c r e)) me.coming other)
     freely = gives i.first_calm i.stands
 
-    silently : (e : Found) → T (ready true (leave r e)) → HoldsPair c (cond (silence (λ (s : Signal). true) me other) (acted (seen (does c r e)) me.coming other) (me, other))
+    silently : (e : Option Event) → T (ready true (leave r e)) → HoldsPair c (cond (silence (λ (s : Signal). true) me other) (acted (seen (does c r e)) me.coming other) (me, other))
     silently e h = by (silence (λ (s : Signal). true) me other) (λ s. notes c i.first_calm i.second_calm r me.coming other.holds other.coming s i.stands)
       where
         by : (s : Bool) → (T s → Stand c true me i.second_calm other) → HoldsPair c (cond s (acted (seen (does c r e)) me.coming other) (me, other))
@@ -239,33 +239,33 @@ module _ (c : Bool) where
     when_waiting true = tt
     when_waiting false = tt
 
-    keeps_host : (e : Found) → HoldsPair c (given (end_acts c) (when_given e) e me other)
-    keeps_host (Is (Arrives s)) = i
-    keeps_host (Is (Ordered Seize)) = freely (Is (Ordered Seize)) tt
-    keeps_host (Is (Ordered Release)) = freely (Is (Ordered Release)) tt
-    keeps_host (Is (Ordered (AddressComplete t free))) = freely (Is (Ordered (AddressComplete t free))) tt
-    keeps_host (Is (Ordered (Answer charging))) = freely (Is (Ordered (Answer charging))) tt
-    keeps_host (Is (Ordered ClearBack)) = freely (Is (Ordered ClearBack)) tt
-    keeps_host (Is (Ordered ReAnswer)) = freely (Is (Ordered ReAnswer)) tt
-    keeps_host (Is (Ordered (FailCall f))) = freely (Is (Ordered (FailCall f))) tt
-    keeps_host (Is (Ordered Block)) = freely (Is (Ordered Block)) tt
-    keeps_host (Is (Ordered Unblock)) = freely (Is (Ordered Unblock)) tt
-    keeps_host (Is (Ordered Restart)) = restarts c me other v i.blocks.yours
-    keeps_host (Is (RunsOut AddressWait)) = freely (Is (RunsOut AddressWait)) tt
-    keeps_host (Is (RunsOut AnswerWait)) = freely (Is (RunsOut AnswerWait)) tt
-    keeps_host (Is (RunsOut IncomingHangUp)) = freely (Is (RunsOut IncomingHangUp)) tt
-    keeps_host (Is (RunsOut Repeat)) = silently (Is (RunsOut Repeat)) (when_waiting (waits r))
-    keeps_host (Is (RunsOut OneMinute)) = silently (Is (RunsOut OneMinute)) (when_waiting (waits r))
-    keeps_host (Is (RunsOut BlockRepeat)) = silently (Is (RunsOut BlockRepeat)) tt
-    keeps_host Missing = freely Missing tt
+    keeps_host : (e : Option Event) → HoldsPair c (given (end_acts c) (when_given e) e me other)
+    keeps_host (Some (Arrives s)) = i
+    keeps_host (Some (Ordered Seize)) = freely (Some (Ordered Seize)) tt
+    keeps_host (Some (Ordered Release)) = freely (Some (Ordered Release)) tt
+    keeps_host (Some (Ordered (AddressComplete t free))) = freely (Some (Ordered (AddressComplete t free))) tt
+    keeps_host (Some (Ordered (Answer charging))) = freely (Some (Ordered (Answer charging))) tt
+    keeps_host (Some (Ordered ClearBack)) = freely (Some (Ordered ClearBack)) tt
+    keeps_host (Some (Ordered ReAnswer)) = freely (Some (Ordered ReAnswer)) tt
+    keeps_host (Some (Ordered (FailCall f))) = freely (Some (Ordered (FailCall f))) tt
+    keeps_host (Some (Ordered Block)) = freely (Some (Ordered Block)) tt
+    keeps_host (Some (Ordered Unblock)) = freely (Some (Ordered Unblock)) tt
+    keeps_host (Some (Ordered Restart)) = restarts c me other v i.blocks.yours
+    keeps_host (Some (RunsOut AddressWait)) = freely (Some (RunsOut AddressWait)) tt
+    keeps_host (Some (RunsOut AnswerWait)) = freely (Some (RunsOut AnswerWait)) tt
+    keeps_host (Some (RunsOut IncomingHangUp)) = freely (Some (RunsOut IncomingHangUp)) tt
+    keeps_host (Some (RunsOut Repeat)) = silently (Some (RunsOut Repeat)) (when_waiting (waits r))
+    keeps_host (Some (RunsOut OneMinute)) = silently (Some (RunsOut OneMinute)) (when_waiting (waits r))
+    keeps_host (Some (RunsOut BlockRepeat)) = silently (Some (RunsOut BlockRepeat)) tt
+    keeps_host None = freely None tt
 
-pub keeps : (c : Bool) (x y : End) (h : Happening Found) → Holds c x y → Holds c (turn (end_acts c) h x y).0 (turn (end_acts c) h x y).1
+pub keeps : (c : Bool) (x y : End) (h : Happening (Option Event)) → Holds c x y → Holds c (turn (end_acts c) h x y).0 (turn (end_acts c) h x y).1
 keeps c x y arrives i = keeps_arrival c x.holds x.coming y i
 keeps c x y (host e) i = keeps_host c x y i e
 
 -- two ends, of which one controls the circuit
 module _ (c : Bool) where
-  keeps_second : (x y : End) (h : Happening Found) → Holds c x y → Holds c (turn (end_acts (not c)) h y x).1 (turn (end_acts (not c)) h y x).0
+  keeps_second : (x y : End) (h : Happening (Option Event)) → Holds c x y → Holds c (turn (end_acts (not c)) h y x).1 (turn (end_acts (not c)) h y x).0
   keeps_second x y h i = again c (turn (end_acts (not c)) h y x).0 (turn (end_acts (not c)) h y x).1 (keeps (not c) y x h (changed c x y i))
 
   started : (x y : End) → Start c (not c) x y → Holds c x y

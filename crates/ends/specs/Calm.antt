@@ -4,7 +4,8 @@
 -- The machine is that of `Machine`, of ends that know whether they are calm. Whenever nothing is on its way, an end may note it, each by itself: that
 -- both always do is the rule, and runs in which they do not are included. So is every run under the rule of `Ends`, and both have one proof.
 -- Assumes nothing.
-use Rattle.std.specs.Prelude.{Bool, true, false, cond, not, ◌||◌, List, [], ◌∷◌, ◌≡◌, ℕ, T, eqb}
+use Rattle.circuit.specs.declared.Event.{Event}
+use Rattle.std.specs.Prelude.{Bool, true, false, cond, not, ◌||◌, List, [], ◌∷◌, ◌≡◌, ℕ, T, eqb, Option, Some, None}
 use Rattle.circuit.specs.declared.Record.{Record}
 use Rattle.circuit.specs.declared.Signal.{Signal}
 use Rattle.circuit.specs.declared.Command.{Command}
@@ -15,8 +16,6 @@ use Rattle.circuit.specs.declared.Event.TheVariants.{Arrives, Ordered, RunsOut}
 use Rattle.circuit.specs.declared.Outcome.{Outcome}
 use Rattle.circuit.specs.Records.{plain, valid}
 use Rattle.circuit.specs.Groups.{controls}
-use Rattle.codes.specs.declared.Found.{Found}
-use Rattle.codes.specs.declared.Found.TheVariants.{Is, Missing}
 use Rattle.ends.specs.Machine.{Party, Both, Effect, Acts, When, When.any_time, When.in_silence, When.losing_all, When.never, Happening.host, turn, Step, Step.first, Step.second, Reached}
 use Rattle.ends.specs.Ends.{End, end, in_order, does, awaiting, Agree}
 
@@ -45,7 +44,7 @@ still (s ∷ rest) calm = false
 
 -- what the host gives: an event; a restart by which all is lost that is on its way; or the end notes that nothing is on its way
 pub data Gift : Type 0 where
-  event : Found → Gift
+  event : Option Event → Gift
   cut lull : Gift
 
 -- whether the host may give an event at once, once the end is calm, or not at all
@@ -76,11 +75,11 @@ leave_runs_out r Repeat = cond (waits r) once_calm at_once
 leave_runs_out r OneMinute = cond (waits r) once_calm at_once
 leave_runs_out r BlockRepeat = at_once
 
-abbrev pub leave : Record → Found → Leave
-leave r (Is (Arrives s)) = withheld
-leave r (Is (Ordered k)) = leave_ordered k
-leave r (Is (RunsOut t)) = leave_runs_out r t
-leave r Missing = at_once
+abbrev pub leave : Record → Option Event → Leave
+leave r (Some (Arrives s)) = withheld
+leave r (Some (Ordered k)) = leave_ordered k
+leave r (Some (RunsOut t)) = leave_runs_out r t
+leave r None = at_once
 
 -- whether it may be given now
 abbrev pub ready : (calm : Bool) → Leave → Bool
@@ -100,14 +99,14 @@ seen_calm calm o = record { after = record { of = o.after; calm = calm }; sends 
 -- a cut is command 10 at an end that need not be calm; its RSC is on its way then, so the end is not
 abbrev pub gives_kept : (c : Bool) → Watched → Gift → Effect Watched Signal
 gives_kept c h (event e) = let o = does c h.of e in seen_calm (still (in_order o.sends) h.calm) o
-gives_kept c h cut = seen_calm false (does c h.of (Is (Ordered Restart)))
+gives_kept c h cut = seen_calm false (does c h.of (Some (Ordered Restart)))
 gives_kept c h lull = record { after = record { of = h.of; calm = true }; sends = [] }
 
 -- every signal is about the circuit, and none is stuck; a signal that arrives ends the calm
 abbrev pub kept_acts : (c : Bool) → Acts Watched Signal Gift
 kept_acts c = record {
   stuck = λ h s. false;
-  takes = λ h s. seen_calm false (does c h.of (Is (Arrives s)));
+  takes = λ h s. seen_calm false (does c h.of (Some (Arrives s)));
   when = when_kept;
   about = λ e s. true;
   gives = gives_kept c;
@@ -136,6 +135,6 @@ ClaimKept =
     → x.coming ≡ [] → y.coming ≡ [] → T (not (awaiting (bare x))) → T (not (awaiting (bare y))) → Agree (bare x) (bare y)
 
 -- what the second end's host gives, one event after another; then the first end, being calm, restarts, and nothing is lost by that
-abbrev pub by_other : List Found → List (Step Gift)
-by_other [] = first (host (event (Is (Ordered Restart)))) ∷ []
+abbrev pub by_other : List (Option Event) → List (Step Gift)
+by_other [] = first (host (event (Some (Ordered Restart)))) ∷ []
 by_other (e ∷ events) = second (host (event e)) ∷ by_other events

@@ -1,37 +1,37 @@
 -- Pairs of ends that are reached, each with the run that leads to it: the claims of `Ends` do not speak of nothing.
 -- Assumes nothing.
-use Rattle.std.specs.Prelude.{true, false, List, [], ◌∷◌, ◌++◌, ℕ}
+use Rattle.circuit.specs.declared.Event.{Event}
+use Rattle.std.specs.Prelude.{true, false, List, [], ◌∷◌, ◌++◌, ℕ, Option}
 use Rattle.circuit.specs.declared.Failure.TheVariants.{Ssb, Cfl}
 use Rattle.circuit.specs.declared.Record.{Record}
 use Rattle.circuit.specs.declared.Signal.{Signal}
 use Rattle.circuit.specs.declared.Signal.TheVariants.{Acm, Clf, Ubl, Rsc, Fail}
 use Rattle.circuit.specs.Records.{rec, plain}
-use Rattle.codes.specs.declared.Found.{Found}
 use Rattle.codes.specs.Numbers.{event_of}
 use Rattle.ends.specs.Machine.{Happening, Happening.arrives, Happening.host, Step, Step.first, Step.second, after}
 use Rattle.ends.specs.Ends.{end, idle, Pair, end_acts}
 use Rattle.ends.specs.Calm.{watched, KeptPair, Gift, Gift.event, Gift.lull, idle_kept, kept_acts}
 
 -- what happens at the controlling end, or at the other
-abbrev pub C : Happening Found → Step Found
+abbrev pub C : Happening (Option Event) → Step (Option Event)
 C = first
 
-abbrev pub N : Happening Found → Step Found
+abbrev pub N : Happening (Option Event) → Step (Option Event)
 N = second
 
 -- a run of two ends
 abbrev pub Run : Type 0
-Run = List (Step Found)
+Run = List (Step (Option Event))
 
 -- from two idle ends
 abbrev pub ran_from : Pair → Run → Pair
 ran_from = after (end_acts true) (end_acts false)
 
 -- the host's events by their numbers
-abbrev pub command : ℕ → ℕ → Happening Found
+abbrev pub command : ℕ → ℕ → Happening (Option Event)
 command code detail = host (event_of 2 code detail)
 
-abbrev pub timer : ℕ → Happening Found
+abbrev pub timer : ℕ → Happening (Option Event)
 timer code = host (event_of 3 code 0)
 
 -- seize

@@ -4,7 +4,8 @@
 -- every event from where a run may start. One computed test shows that no event leads out of them and that the ends agree in each; blocks are followed
 -- beside that. `proofs/Lib.antt` leads through the files.
 -- Assumes nothing.
-use Rattle.std.specs.Prelude.{Bool, true, false, not, ◌&&◌, ◌||◌, List, [], ◌∷◌, ◌≡◌, ℕ, T, eqb, leb}
+use Rattle.circuit.specs.declared.Event.{Event}
+use Rattle.std.specs.Prelude.{Bool, true, false, not, ◌&&◌, ◌||◌, List, [], ◌∷◌, ◌≡◌, ℕ, T, eqb, leb, Option, Some}
 use Rattle.circuit.specs.declared.Record.{Record}
 use Rattle.circuit.specs.declared.Signal.{Signal}
 use Rattle.circuit.specs.declared.Signal.TheVariants.{Iam, Acm, Anc, Ann, Cbk, Clf, Ran, Rlg, Blo, Bla, Ubl, Uba, Rsc, Fail}
@@ -15,8 +16,6 @@ use Rattle.circuit.specs.declared.Sends.TheVariants.{Nothing, One, Two}
 use Rattle.circuit.specs.declared.Outcome.{Outcome}
 use Rattle.circuit.specs.Records.{plain, valid}
 use Rattle.circuit.specs.Groups.{controls}
-use Rattle.codes.specs.declared.Found.{Found}
-use Rattle.codes.specs.declared.Found.TheVariants.{Is}
 use Rattle.step.specs.Step.{step_found}
 use Rattle.ends.specs.Machine.{Party, Both, Effect, Acts, when_given, Happening, Happening.host, turn, Reached}
 
@@ -40,7 +39,7 @@ in_order (One s) = s ∷ []
 in_order (Two s t) = s ∷ t ∷ []
 
 -- What an end does with an event: the very definition that the contract of the program's step cites. c: the end controls the circuit.
-unfoldable pub does : (c : Bool) → Record → Found → Outcome
+unfoldable pub does : (c : Bool) → Record → Option Event → Outcome
 does c r e = step_found c r e
 
 -- of that, what the pair sees: the new record, a refusal the old one, and what is sent
@@ -48,17 +47,17 @@ abbrev pub seen : Outcome → Effect Record Signal
 seen o = record { after = o.after; sends = in_order o.sends }
 
 -- every signal is about the circuit, and none is stuck; the host's event may come by any numbers: it is then `event_of kind code detail` of `codes`
-abbrev pub end_acts : (c : Bool) → Acts Record Signal Found
+abbrev pub end_acts : (c : Bool) → Acts Record Signal (Option Event)
 end_acts c = record {
   stuck = λ r s. false;
-  takes = λ r s. seen (does c r (Is (Arrives s)));
+  takes = λ r s. seen (does c r (Some (Arrives s)));
   when = λ r e. when_given e;
   about = λ e s. true;
   gives = λ r e. seen (does c r e);
 }
 
-abbrev pub restart : Happening Found
-restart = host (Is (Ordered Restart))
+abbrev pub restart : Happening (Option Event)
+restart = host (Some (Ordered Restart))
 
 -- Where a run of two ends may start; a, b: whether the first and the second control the circuit. Both are idle and nothing is on its way; or one of
 -- them has just restarted, whatever two legal records they held before and whatever was on its way.

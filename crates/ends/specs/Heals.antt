@@ -1,23 +1,22 @@
 -- Whatever was lost, a restart heals it: from any two legal records, however they came about, one end restarts, and once all has arrived, at most
 -- after timer 4 in the silence that follows, both ends are idle and know each other's block.
 -- Assumes nothing.
-use Rattle.std.specs.Prelude.{Bool, true, false, cond, ◌||◌, List, [], ◌∷◌, ◌⊎◌, ◌≡◌, ℕ, T, eqb}
+use Rattle.circuit.specs.declared.Event.{Event}
+use Rattle.std.specs.Prelude.{Bool, true, false, cond, ◌||◌, List, [], ◌∷◌, ◌⊎◌, ◌≡◌, ℕ, T, eqb, Option, Some}
 use Rattle.circuit.specs.declared.Timer.TheVariants.{Repeat}
 use Rattle.circuit.specs.declared.Event.TheVariants.{RunsOut}
 use Rattle.circuit.specs.Records.{valid}
 use Rattle.circuit.specs.Groups.{controls}
-use Rattle.codes.specs.declared.Found.{Found}
-use Rattle.codes.specs.declared.Found.TheVariants.{Is}
 use Rattle.ends.specs.Machine.{Happening, Happening.arrives, Happening.host, turn, Step, Step.first, Step.second, after}
 use Rattle.ends.specs.Ends.{End, Pair, end_acts, restart}
 
 -- at the first end, or at the second
-abbrev pub at : (is_first : Bool) → Happening Found → Step Found
+abbrev pub at : (is_first : Bool) → Happening (Option Event) → Step (Option Event)
 at true h = first h
 at false h = second h
 
 -- signals arrive in some order: true, the oldest on its way to the first end is next
-abbrev pub arrivals : (order : List Bool) → List (Step Found)
+abbrev pub arrivals : (order : List Bool) → List (Step (Option Event))
 arrivals [] = []
 arrivals (is_first ∷ order) = at is_first arrives ∷ arrivals order
 
@@ -34,7 +33,7 @@ module _ (a b : Bool) where
   delivered order p = after (end_acts a) (end_acts b) p (arrivals order)
 
   unfoldable pub repeated : Pair → Pair
-  repeated p = after (end_acts a) (end_acts b) p (at (first_repeats p) (host (Is (RunsOut Repeat))) ∷ [])
+  repeated p = after (end_acts a) (end_acts b) p (at (first_repeats p) (host (Some (RunsOut Repeat))) ∷ [])
 
 -- nothing is on its way
 pub record Quiet (p : Pair) : Type 0 where

@@ -2,14 +2,13 @@
 -- the rules of demand 3: messages in order, none lost but by a restart, timers 4 to 6 only in silence. What a party holds, what a message is, what
 -- the host gives and what a party does with either are parameters.
 -- Assumes nothing.
-use Rattle.std.specs.Prelude.{Bool, true, cond, not, ◌&&◌, List, [], ◌∷◌, ◌++◌}
+use Rattle.circuit.specs.declared.Event.{Event}
+use Rattle.std.specs.Prelude.{Bool, true, cond, not, ◌&&◌, List, [], ◌∷◌, ◌++◌, Option, Some, None}
 use Rattle.circuit.specs.declared.Command.{Command}
 use Rattle.circuit.specs.declared.Command.TheVariants.{Seize, Release, AddressComplete, Answer, ClearBack, ReAnswer, FailCall, Block, Unblock, Restart}
 use Rattle.circuit.specs.declared.Timer.{Timer}
 use Rattle.circuit.specs.declared.Timer.TheVariants.{AddressWait, AnswerWait, IncomingHangUp, Repeat, OneMinute, BlockRepeat}
 use Rattle.circuit.specs.declared.Event.TheVariants.{Arrives, Ordered, RunsOut}
-use Rattle.codes.specs.declared.Found.{Found}
-use Rattle.codes.specs.declared.Found.TheVariants.{Is, Missing}
 
 -- what a party holds, and the messages on their way to it in a queue of any length, the oldest first
 pub record Party (H M : Type 0) : Type 0 where
@@ -52,11 +51,11 @@ when_runs_out OneMinute = in_silence
 when_runs_out BlockRepeat = in_silence
 
 -- signals come from the other end, never from the host; numbers that name no event are refused whenever they come
-abbrev pub when_given : Found → When
-when_given (Is (Arrives s)) = never
-when_given (Is (Ordered k)) = when_ordered k
-when_given (Is (RunsOut t)) = when_runs_out t
-when_given Missing = any_time
+abbrev pub when_given : Option Event → When
+when_given (Some (Arrives s)) = never
+when_given (Some (Ordered k)) = when_ordered k
+when_given (Some (RunsOut t)) = when_runs_out t
+when_given None = any_time
 
 -- What a party does that holds something: with a message that arrives, unless it is stuck and stays where it is; and with what its host gives, when
 -- the host can give it, where silence and loss are of the messages that it is about.

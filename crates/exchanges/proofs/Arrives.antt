@@ -1,5 +1,7 @@
 -- A message that arrives at an exchange: about the circuit it is a signal that arrives at its end, or none; about another, or refused, it is nothing.
 -- Assumes nothing.
+use Rattle.std.specs.Prelude.{Option, Some, None}
+use Rattle.circuit.specs.declared.Event.{Event}
 use mathlib.Core.Path.{◌≡◌, refl, sym, ap, ◌∙◌, subst}
 use mathlib.Core.Bool.{Bool, true, false, cond}
 use mathlib.Core.List.{List, [], ◌∷◌, ◌++◌, append-nil}
@@ -14,10 +16,6 @@ use Rattle.circuit.specs.Groups.{controls}
 use Rattle.circuit.specs.Refusals.{Clear}
 use Rattle.circuit.proofs.Refusals.{clear}
 use Rattle.circuit.proofs.Every.{is_true}
-use Rattle.codes.specs.declared.Named.{Named}
-use Rattle.codes.specs.declared.Named.TheVariants.{Known, Unknown}
-use Rattle.codes.specs.declared.Found.{Found}
-use Rattle.codes.specs.declared.Found.TheVariants.{Missing}
 use Rattle.codes.specs.Headings.{signal_of}
 use Rattle.codes.specs.Numbers.{detail_fits, arrives as named-event, event_of}
 use Rattle.words.specs.Octets.{number_of, over}
@@ -88,10 +86,10 @@ module _ (own far watched : ℕ) (table : List ℕ) (m : Message) where
 
 module _ (own far cic : ℕ) where
   -- the two ends, when a signal arrives that a message names, or none
-  heard_step : (r : Record) (n : Named) (w : List Signal) (t : Record) (v : List Signal) → Holds (controls own far cic) (end r (named n ++ w)) (end t v)
+  heard_step : (r : Record) (n : Option Signal) (w : List Signal) (t : Record) (v : List Signal) → Holds (controls own far cic) (end r (named n ++ w)) (end t v)
       → Holds (controls own far cic) (end (does (controls own far cic) r (named-event n)).after w) (end t (v ++ in_order (does (controls own far cic) r (named-event n)).sends))
-  heard_step r (Known s) w t v i = keeps (controls own far cic) (end r (s ∷ w)) (end t v) arrives i
-  heard_step r Unknown w t v i = keeps (controls own far cic) (end r w) (end t v) (host Missing) i
+  heard_step r (Some s) w t v i = keeps (controls own far cic) (end r (s ∷ w)) (end t v) arrives i
+  heard_step r None w t v i = keeps (controls own far cic) (end r w) (end t v) (host None) i
 
   module _ (table : List ℕ) (m : Message) (rest : List Message) (y : Exchange) (h : LinkHolds own far cic (record { holds = table; coming = m ∷ rest }) y) where
     abbrev n : ℕ
@@ -123,12 +121,12 @@ module _ (own far cic : ℕ) where
         by_about false = refl
 
     module _ (z : F.refusal ≡ 0) where
-      abbrev e : Found
+      abbrev e : Option Event
       e = event_of 1 F.heading F.acm
 
       is_named : e ≡ named-event (signal_of F.heading F.acm)
       unfolding event_of
-      is_named = ap (λ (b : Bool). cond b (named-event (signal_of F.heading F.acm)) Missing) (fitting own far cic table m z)
+      is_named = ap (λ (b : Bool). cond b (named-event (signal_of F.heading F.acm)) None) (fitting own far cic table m z)
 
       hears : is_about cic m ≡ true → seen_in own far n cic m ≡ named (signal_of F.heading F.acm)
       hears a = ap (λ (b : Bool). cond b (heard_in F) []) a ∙ ap (λ (b : Bool). cond b (named (signal_of F.heading F.acm)) []) (eq-eqb F.refusal 0 z)
@@ -137,7 +135,7 @@ module _ (own far cic : ℕ) where
       on_circuit : is_about cic m ≡ true → ((step_in own far table cic e).answer.refusal ≡ 13 → ⊥)
           → HoldsPair own far cic (acted (steps own far cic table cic e plainly) rest y)
       on_circuit a not13 = on_it own far cic table y.holds h.first h.second e plainly rest y.coming plainly_good not13
-          (subst (λ (e : Found). EndsActed own far cic table y.holds h.first h.second e (signals own far n cic rest) (signals far own (records_in (length y.holds)) cic y.coming)) (sym is_named)
+          (subst (λ (e : Option Event). EndsActed own far cic table y.holds h.first h.second e (signals own far n cic rest) (signals far own (records_in (length y.holds)) cic y.coming)) (sym is_named)
           (heard_step (record_at table cic) (signal_of F.heading F.acm) (signals own far n cic rest) (record_at y.holds cic) _
           (subst (λ (l : List Signal). Holds (controls own far cic) (end (record_at table cic) (l ++ signals own far n cic rest)) (end_at far own cic y)) (hears a) h.ends)))
 

@@ -1,6 +1,8 @@
 -- An event at one exchange, carried to the circuit's two ends: on the circuit it is the step of its end there, and beside it it changes neither of them. What
 -- holds of two ends that are reached is kept so by either.
 -- Assumes nothing.
+use Rattle.std.specs.Prelude.{Option}
+use Rattle.circuit.specs.declared.Event.{Event}
 use mathlib.Core.Path.{◌≡◌, refl, sym, ap, ◌∙◌, subst}
 use mathlib.Core.Bool.{Bool, true, false, ◌&&◌, and-false}
 use mathlib.Core.List.{List, ◌++◌, append-nil}
@@ -13,7 +15,6 @@ use Rattle.circuit.specs.declared.Signal.{Signal}
 use Rattle.circuit.specs.declared.Sends.{Sends}
 use Rattle.circuit.specs.declared.Outcome.{Outcome}
 use Rattle.circuit.specs.Groups.{controls}
-use Rattle.codes.specs.declared.Found.{Found}
 use Rattle.layout.specs.Layout.{Held, records_in, flags_at, record_of, record_at, put}
 use Rattle.layout.proofs.Laws.{flags_low, put_flags, ranked_flags}
 use Rattle.step.specs.Step.{step_found}
@@ -45,7 +46,7 @@ HoldsPair own far cic p = LinkHolds own far cic p.0 p.1
 
 -- A TABLE STAYS GOOD
 
-module _ (own far cic : ℕ) (table : List ℕ) (g : Good own far cic table) (i : ℕ) (e : Found) where
+module _ (own far cic : ℕ) (table : List ℕ) (g : Good own far cic table) (i : ℕ) (e : Option Event) where
   low_here : flags_at (step_in own far table cic e).table cic ≤ 15
   low_here =
       by_cases own far table cic e (λ s. flags_at s.table cic ≤ 15) g.low g.low (λ n h. g.low)
@@ -71,7 +72,7 @@ module _ (own far cic : ℕ) (table : List ℕ) (g : Good own far cic table) (i 
 -- REFUSED 13
 
 -- on the circuit: what is not barred is not refused 13
-pub not_barred : (own far cic : ℕ) (table : List ℕ) (e : Found) → refused13 own far cic table cic e ≡ false → (step_in own far table cic e).answer.refusal ≡ 13 → ⊥
+pub not_barred : (own far cic : ℕ) (table : List ℕ) (e : Option Event) → refused13 own far cic table cic e ≡ false → (step_in own far table cic e).answer.refusal ≡ 13 → ⊥
 not_barred own far cic table e q = eqb-false (step_in own far table cic e).answer.refusal 13 (go (eqb (step_in own far table cic e).answer.refusal 13) q)
   where
     go : (b : Bool) → (b && eqb cic cic) ≡ false → b ≡ false
@@ -79,7 +80,7 @@ not_barred own far cic table e q = eqb-false (step_in own far table cic e).answe
     go false q = refl
 
 -- on any circuit: nothing is barred but what that one refuses 13
-pub barred : (own far cic i : ℕ) (table : List ℕ) (e : Found) → (i ≡ cic → (step_in own far table i e).answer.refusal ≡ 13 → ⊥) → refused13 own far cic table i e ≡ false
+pub barred : (own far cic i : ℕ) (table : List ℕ) (e : Option Event) → (i ≡ cic → (step_in own far table i e).answer.refusal ≡ 13 → ⊥) → refused13 own far cic table i e ≡ false
 barred own far cic i table e not13 = go (eqb i cic) refl
   where
     go : (b : Bool) → eqb i cic ≡ b → (eqb (step_in own far table i e).answer.refusal 13 && b) ≡ false
@@ -99,11 +100,11 @@ module _ (own far cic : ℕ) (table u : List ℕ) (g : Good own far cic table) (
   theirs = signals far own (records_in (length u)) cic
 
   -- what the two ends come to
-  abbrev pub EndsActed : Found → (w v : List Signal) → Type 0
+  abbrev pub EndsActed : Option Event → (w v : List Signal) → Type 0
   EndsActed e w v = Holds c (end (does c (record_at table cic) e).after w) (end (record_at u cic) (v ++ in_order (does c (record_at table cic) e).sends))
 
   -- what the exchanges come to, with w and v still on their way
-  abbrev pub Acted : (i : ℕ) → Found → Particulars → (w v : List Message) → Type 0
+  abbrev pub Acted : (i : ℕ) → Option Event → Particulars → (w v : List Message) → Type 0
   Acted i e p w v = HoldsPair own far cic (acted (steps own far cic table i e p) w (record { holds = u; coming = v }))
 
   -- another table of the same length, with this record at the circuit
@@ -113,7 +114,7 @@ module _ (own far cic : ℕ) (table u : List ℕ) (g : Good own far cic table) (
       subst (λ (n : ℕ). Holds c (end (record_at after cic) (signals own far (records_in n) cic w)) (end (record_at u cic) v)) (sym long)
       (subst (λ (r : Record). Holds c (end r (mine w)) (end (record_at u cic) v)) (sym is) h)
 
-  pub on_it : (e : Found) (p : Particulars) (w v : List Message) → T (good p) → ((step_in own far table cic e).answer.refusal ≡ 13 → ⊥)
+  pub on_it : (e : Option Event) (p : Particulars) (w v : List Message) → T (good p) → ((step_in own far table cic e).answer.refusal ≡ 13 → ⊥)
       → EndsActed e (mine w) (theirs v) → Acted cic e p w v
   unfolding does
   on_it e p w v gp not13 i = record {
@@ -138,7 +139,7 @@ module _ (own far cic : ℕ) (table u : List ℕ) (g : Good own far cic table) (
           ∙ ap (λ (l : List ℕ). heard (theirs v) ++ l) (sent_here far own (records_in (length u)) cic (records_in (length table)) g.has.group g.has.circuit k.has.group k.has.circuit p gp (in_order o.sends))
           ∙ sym (heard_more (theirs v) (in_order o.sends)))
 
-  pub beside_it : (i : ℕ) → (i ≡ cic → ⊥) → (e : Found) (p : Particulars) (w v : List Message)
+  pub beside_it : (i : ℕ) → (i ≡ cic → ⊥) → (e : Option Event) (p : Particulars) (w v : List Message)
       → Holds c (end (record_at table cic) (mine w)) (end (record_at u cic) (theirs v)) → Acted i e p w v
   beside_it i other e p w v h = record {
     first = stepped own far cic table g i e;

@@ -1,5 +1,7 @@
 -- What an exchange's host gives, and what befalls the link: each is something that happens to the circuit's two ends, or leaves them as they are.
 -- Assumes nothing.
+use Rattle.std.specs.Prelude.{Option}
+use Rattle.circuit.specs.declared.Event.{Event}
 use mathlib.Core.Path.{◌≡◌, refl, sym, ap, ◌∙◌, subst, subst₂}
 use mathlib.Core.Bool.{Bool, true, false, cond, not, ◌&&◌, false≢true}
 use mathlib.Core.List.{List, [], append-nil}
@@ -10,7 +12,6 @@ use lib.ListN.{length}
 use Rattle.circuit.specs.declared.Signal.{Signal}
 use Rattle.circuit.specs.Groups.{controls}
 use Rattle.circuit.proofs.Every.{left, right}
-use Rattle.codes.specs.declared.Found.{Found}
 use Rattle.codes.specs.Numbers.{event_of}
 use Rattle.layout.specs.Layout.{records_in, record_at}
 use Rattle.group.specs.Table.{step_in}
@@ -25,7 +26,7 @@ use Rattle.exchanges.proofs.Arrives.{keeps_arrival}
 
 module _ (own far cic : ℕ) where
   -- on the circuit
-  module _ (x y : Exchange) (g : Good own far cic x.holds) (k : Good far own cic y.holds) (e : Found) (p : Particulars) (gp : T (good p))
+  module _ (x y : Exchange) (g : Good own far cic x.holds) (k : Good far own cic y.holds) (e : Option Event) (p : Particulars) (gp : T (good p))
       (not13 : (step_in own far x.holds cic e).answer.refusal ≡ 13 → ⊥) where
     abbrev pub seen_by : List Message → List Signal
     seen_by = signals own far (records_in (length x.holds)) cic
@@ -73,7 +74,7 @@ module _ (own far cic : ℕ) where
 
   -- on whatever circuit
   module _ (x y : Exchange) (h : LinkHolds own far cic x y) (i kind code detail : ℕ) (p : Particulars) where
-    abbrev ev : Found
+    abbrev ev : Option Event
     ev = event_of kind code detail
 
     abbrev Given : (i : ℕ) → When → Type 0

@@ -1,5 +1,6 @@
 -- The theorem over the link: what holds of two ends that are reached holds of the circuit's records and messages, at the start and whatever happens.
 -- Assumes nothing.
+use Rattle.std.specs.Prelude.{Some}
 use mathlib.Core.Path.{◌≡◌, refl, sym, ap, ◌∙◌, subst, subst₂}
 use mathlib.Core.Bool.{Bool, true, false, cond, not, ◌&&◌, ◌||◌, true≢false, false≢true}
 use mathlib.Core.List.{List, [], ◌∷◌, ◌++◌}
@@ -15,8 +16,6 @@ use Rattle.circuit.specs.Groups.{bad_code, bad_group, controls}
 use Rattle.circuit.specs.Refusals.{refuse, first_rule}
 use Rattle.circuit.proofs.Groups.{one_controls}
 use Rattle.circuit.proofs.Every.{left, right, both, is_true}
-use Rattle.codes.specs.declared.Named.TheVariants.{Known}
-use Rattle.codes.specs.declared.Found.TheVariants.{Is}
 use Rattle.codes.specs.Headings.{signal_of}
 use Rattle.codes.specs.Numbers.{event_of}
 use Rattle.layout.specs.Layout.{records_in, record_of, record_at, allowed_at}
@@ -44,11 +43,11 @@ use Rattle.exchanges.proofs.Given.{lose, keeps_link}
 -- AT THE START
 
 -- a restart frees no circuit, so it is never refused 13
-pub not_thirteen : (own far cic : ℕ) (table : List ℕ) → Has own far cic table → T (allowed_at table cic) → (step_in own far table cic (Is (Ordered Restart))).answer.refusal ≡ 13 → ⊥
+pub not_thirteen : (own far cic : ℕ) (table : List ℕ) → Has own far cic table → T (allowed_at table cic) → (step_in own far table cic (Some (Ordered Restart))).answer.refusal ≡ 13 → ⊥
 not_thirteen own far cic table h a e =
-    (behind (record_at table cic) (Is (Ordered Restart)) false 13 (lit≤ tt) (sym asked ∙ (sym (refusals own far table cic (Is (Ordered Restart))) ∙ e))).1
+    (behind (record_at table cic) (Some (Ordered Restart)) false 13 (lit≤ tt) (sym asked ∙ (sym (refusals own far table cic (Some (Ordered Restart))) ∙ e))).1
   where
-    asked : refusal_in own far table cic (Is (Ordered Restart)) ≡ first_rule (found_rules (record_at table cic) (Is (Ordered Restart)) ++ (refuse 13 false ∷ []))
+    asked : refusal_in own far table cic (Some (Ordered Restart)) ≡ first_rule (found_rules (record_at table cic) (Some (Ordered Restart)) ++ (refuse 13 false ∷ []))
     asked = rw (h.group, lt-leb (records_in (length table)) cic h.circuit, is_true (allowed_at table cic) a) refl
 
 module _ (own far cic : ℕ) where
@@ -79,9 +78,9 @@ start_idle own far cic x y hx hy ix iy t = record {
 start_restarted : (own far cic : ℕ) (x y : Exchange) → Has own far cic x.holds → Has far own cic y.holds → T (allowed_at x.holds cic) → T (allowed_at y.holds cic)
     → HoldsPair own far cic (turn (exchange_acts own far cic) (restart_of cic) x y)
 unfolding event_of
-start_restarted own far cic x y hx hy ax ay = go (refused13 own far cic x.holds cic (Is (Ordered Restart))) refl
+start_restarted own far cic x y hx hy ax ay = go (refused13 own far cic x.holds cic (Some (Ordered Restart))) refl
   where
-    not13 : (step_in own far x.holds cic (Is (Ordered Restart))).answer.refusal ≡ 13 → ⊥
+    not13 : (step_in own far x.holds cic (Some (Ordered Restart))).answer.refusal ≡ 13 → ⊥
     not13 = not_thirteen own far cic x.holds hx ax
 
     g : Good own far cic x.holds
@@ -91,12 +90,12 @@ start_restarted own far cic x y hx hy ax ay = go (refused13 own far cic x.holds 
     k = good_allowed far own cic y.holds hy ay
 
     done : HoldsPair own far cic (given (exchange_acts own far cic) losing_all (event cic 2 10 0 plainly) x y)
-    done = lose own far cic x y g k (Is (Ordered Restart)) plainly plainly_good not13
+    done = lose own far cic x y g k (Some (Ordered Restart)) plainly plainly_good not13
         (restarts (controls own far cic) (end (record_at x.holds cic) []) (end (record_at y.holds cic) []) (valid_at x.holds cic ax) (valid_at y.holds cic ay))
 
-    go : (r : Bool) → refused13 own far cic x.holds cic (Is (Ordered Restart)) ≡ r
+    go : (r : Bool) → refused13 own far cic x.holds cic (Some (Ordered Restart)) ≡ r
         → HoldsPair own far cic (given (exchange_acts own far cic) (cond (good plainly && not r) losing_all never) (event cic 2 10 0 plainly) x y)
-    go true q = absurd (false≢true (sym (barred own far cic cic x.holds (Is (Ordered Restart)) (λ z. not13)) ∙ q))
+    go true q = absurd (false≢true (sym (barred own far cic cic x.holds (Some (Ordered Restart)) (λ z. not13)) ∙ q))
     go false q = rw (is_true (good plainly) plainly_good) done
 
 -- THE OTHER WAY ROUND
@@ -162,7 +161,7 @@ exchanges_agree own far cic x y r t wx wy = record { call = a.call; block_of_fir
 -- the message at the head of the queue, if it is the circuit's: its signal is none that never arrives there
 pub head_heard : (own far cic : ℕ) (table : List ℕ) (m : Message) (rest : List Message) (y : Exchange) → ExchangesCome own far cic (record { holds = table; coming = m ∷ rest }) y
     → let r = reading own far (records_in (length table)) m in
-    (s : Signal) → r.refusal ≡ 0 → r.message.circuit.0 ≡ cic → r.message.signal ≡ Known s → T (not (never_heard (record_at table cic).state s))
+    (s : Signal) → r.refusal ≡ 0 → r.message.circuit.0 ≡ cic → r.message.signal ≡ Some s → T (not (never_heard (record_at table cic).state s))
 head_heard own far cic table m rest y q s z is says =
     next_heard (controls own far cic) (end_at own far cic (record { holds = table; coming = m ∷ rest })) (end_at far own cic y) (link_holds own far cic q).ends s
     (signals own far (records_in (length table)) cic rest) (ap (λ (l : List Signal). l ++ signals own far (records_in (length table)) cic rest) seen)

@@ -1,5 +1,7 @@
 -- The rules of the machine, as they come out for two exchanges over a link: what each thing that can happen leads to.
 -- Assumes nothing.
+use Rattle.std.specs.Prelude.{Option, Some}
+use Rattle.circuit.specs.declared.Event.{Event}
 use mathlib.Core.Path.{◌≡◌, refl, subst}
 use mathlib.Core.Bool.{Bool, true, false, cond, not, ◌&&◌}
 use mathlib.Core.List.{List, [], ◌∷◌, ◌++◌, append-nil}
@@ -11,8 +13,6 @@ use Rattle.circuit.specs.declared.Command.TheVariants.{Restart}
 use Rattle.circuit.specs.declared.Event.TheVariants.{Ordered}
 use Rattle.circuit.specs.Groups.{bad_group}
 use Rattle.circuit.proofs.Every.{both, is_true}
-use Rattle.codes.specs.declared.Found.{Found}
-use Rattle.codes.specs.declared.Found.TheVariants.{Is}
 use Rattle.codes.specs.Numbers.{event_of}
 use Rattle.layout.specs.Layout.{records_in, allowed_at}
 use Rattle.group.specs.Table.{step_in}
@@ -58,7 +58,7 @@ module _ (own far cic : ℕ) (t u : List ℕ) (w v : List Message) where
 
   -- an event that the host gives
   module _ (i kind code detail : ℕ) (p : Particulars) (well : T (good p)) (not13 : i ≡ cic → (step_in own far t i (event_of kind code detail)).answer.refusal ≡ 13 → ⊥) where
-    abbrev e : Found
+    abbrev e : Option Event
     e = event_of kind code detail
 
     abbrev Given : When → Type 0
@@ -102,5 +102,5 @@ restarting own far cic t u w v g h g' h' a a' =
     here : Has own far cic t
     here = record { group = g; circuit = h }
 
-    allowed : (good plainly && not (refused13 own far cic t cic (Is (Ordered Restart)))) ≡ true
-    allowed = rw (is_true (good plainly) plainly_good, barred own far cic cic t (Is (Ordered Restart)) (λ z. not_thirteen own far cic t here a)) refl
+    allowed : (good plainly && not (refused13 own far cic t cic (Some (Ordered Restart)))) ≡ true
+    allowed = rw (is_true (good plainly) plainly_good, barred own far cic cic t (Some (Ordered Restart)) (λ z. not_thirteen own far cic t here a)) refl

@@ -1,5 +1,6 @@
 -- What an exchange sends: the writer takes every signal with good particulars, and the other end reads the octets as that signal on that circuit.
 -- Assumes nothing.
+use Rattle.std.specs.Prelude.{Option, Some, None}
 use mathlib.Core.Path.{◌≡◌, refl, sym, ap, ◌∙◌}
 use mathlib.Core.Bool.{Bool, true, false, cond, not, ◌&&◌}
 use mathlib.Core.List.{List, [], ◌∷◌}
@@ -16,8 +17,6 @@ use Rattle.circuit.proofs.Groups.{at_most4096}
 use Rattle.circuit.specs.Refusals.{first_rule}
 use Rattle.circuit.proofs.Refusals.{none_given}
 use Rattle.circuit.proofs.Every.{left, right}
-use Rattle.codes.specs.declared.Named.{Named}
-use Rattle.codes.specs.declared.Named.TheVariants.{Known, Unknown}
 use Rattle.codes.specs.Headings.{heading_of, signal_of}
 use Rattle.formats.specs.Octets.{above_fifteen, short}
 use Rattle.formats.specs.Messages.{has_signals, listed, half}
@@ -176,16 +175,16 @@ pub circuit_read : (own far count : ℕ) (xs : List ℕ) → (fields_of own far 
 circuit_read own far count xs e = ap (λ (f : Fields). f.circuit.0) (read_fields own far count xs (sym (read_refusal own far count xs) ∙ e))
 
 -- the signal that fields name, if they are accepted
-abbrev pub named : Named → List Signal
-named (Known s) = s ∷ []
-named Unknown = []
+abbrev pub named : Option Signal → List Signal
+named (Some s) = s ∷ []
+named None = []
 
 abbrev pub heard_in : Fields → List Signal
 heard_in f = cond (eqb f.refusal 0) (named (signal_of f.heading f.acm)) []
 
 -- the fields of a signal's message name the signal
 pub names : (cic : ℕ) (p : Particulars) (s : Signal) → let f = fields_said (saying cic (heading_of s) p) in
-    (f.refusal ≡ 0) × (f.circuit.0 ≡ cic) × (signal_of f.heading f.acm ≡ Known (chosen p s))
+    (f.refusal ≡ 0) × (f.circuit.0 ≡ cic) × (signal_of f.heading f.acm ≡ Some (chosen p s))
 names cic p Iam = (refl, refl, refl)
 names cic p (Acm octet) = (refl, refl, refl)
 names cic p Anc = (refl, refl, refl)
@@ -231,7 +230,7 @@ same_word cic s p =
     let f = fields_said (saying cic (heading_of s) p) in
     let n = names cic p s in
     ap (λ (b : Bool). heard (cond b (named (signal_of f.heading f.acm)) [])) (eq-eqb f.refusal 0 n.0)
-    ∙ ap (λ (k : Named). heard (named k)) n.2
+    ∙ ap (λ (k : Option Signal). heard (named k)) n.2
     ∙ ap (λ (k : ℕ). k ∷ []) (word_chosen p s)
 
 -- What an exchange writes for a signal with good particulars, the other end, in its own group that has the circuit, reads as that signal.
@@ -239,7 +238,7 @@ pub sent_is_read : (own far count cic : ℕ) → bad_group own far count ≡ fal
     → (theirs : ℕ) → bad_group far own theirs ≡ false → cic < theirs → (s : Signal)
     → let w = write_from own far count (saying cic (heading_of s) p) p.buffer in
     let r = reading far own theirs (take (w.answer / 256) w.buffer) in
-    (w.answer % 256 ≡ 0) × (r.refusal ≡ 0) × (r.message.circuit.0 ≡ cic) × (r.message.signal ≡ Known (chosen p s))
+    (w.answer % 256 ≡ 0) × (r.refusal ≡ 0) × (r.message.circuit.0 ≡ cic) × (r.message.signal ≡ Some (chosen p s))
 sent_is_read own far count cic group has p g theirs group' has' s =
     let m = saying cic (heading_of s) p in
     let ok = accepted own far count cic group has p g s in

@@ -2,11 +2,11 @@
 -- all circuits mixed. What an exchange does is what the entries of the archive do (`step_in`, `read_into`, `write_from`); when it does it is the
 -- `Machine` of two parties. Demand 3 is carried from two ends of a circuit to every circuit that both groups have.
 -- Assumes nothing.
-use Rattle.std.specs.Prelude.{◌≡◌, Bool, false, cond, not, ◌&&◌, List, [], ◌∷◌, ◌++◌, ℕ, ◌/◌, ◌%◌, ◌<◌, T, eqb, leb, length, get_or, take, replicate}
+use Rattle.circuit.specs.declared.Event.{Event}
+use Rattle.std.specs.Prelude.{◌≡◌, Bool, false, cond, not, ◌&&◌, List, [], ◌∷◌, ◌++◌, ℕ, ◌/◌, ◌%◌, ◌<◌, T, eqb, leb, length, get_or, take, replicate, Option}
 use Rattle.circuit.specs.declared.Signal.{Signal}
 use Rattle.circuit.specs.declared.Signal.TheVariants.{Iam, Acm, Anc, Ann, Cbk, Clf, Ran, Rlg, Blo, Bla, Ubl, Uba, Rsc, Fail}
 use Rattle.circuit.specs.Groups.{bad_group}
-use Rattle.codes.specs.declared.Found.{Found}
 use Rattle.codes.specs.Headings.{heading_of}
 use Rattle.codes.specs.Numbers.{event_of}
 use Rattle.words.specs.Octets.{number_of}
@@ -104,20 +104,20 @@ pub data Gift : Type 0 where
 abbrev pub circuit_in : (fields : List ℕ) → ℕ
 circuit_in fields = number_of (get_or fields 0 0 ∷ get_or fields 1 0 ∷ [])
 
-abbrev pub signal_in : (fields : List ℕ) → Found
+abbrev pub signal_in : (fields : List ℕ) → Option Event
 signal_in fields = event_of 1 (get_or fields 2 0) (get_or fields 3 0)
 
 -- own, far: the exchange's own code and the other's; watched: the circuit that is looked at
 module _ (own far watched : ℕ) where
   -- an event on a circuit of its table
-  abbrev pub steps : List ℕ → (cic : ℕ) → Found → Particulars → Effect (List ℕ) Message
+  abbrev pub steps : List ℕ → (cic : ℕ) → Option Event → Particulars → Effect (List ℕ) Message
   steps table cic e p = record {
     after = (step_in own far table cic e).table;
     sends = writes_all own far (records_in (length table)) cic p (in_order (step_in own far table cic e).answer.sends);
   }
 
   -- the circuit that is looked at refuses it 13
-  abbrev pub refused13 : List ℕ → (cic : ℕ) → Found → Bool
+  abbrev pub refused13 : List ℕ → (cic : ℕ) → Option Event → Bool
   refused13 table cic e = eqb (step_in own far table cic e).answer.refusal 13 && eqb cic watched
 
   -- a message that arrives is read into 23 octets; one that is refused is dropped, any other is given to the circuit that it names

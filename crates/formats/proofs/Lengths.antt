@@ -1,5 +1,6 @@
 -- How long a message is, by its heading: the cases of `fixed_length`.
 -- Assumes nothing.
+use Rattle.std.specs.Prelude.{Some}
 use mathlib.Core.Path.{◌≡◌, refl, sym, ap, ◌∙◌, subst}
 use mathlib.Core.Bool.{Bool, true, false, cond}
 use mathlib.Core.List.{List, [], ◌∷◌}
@@ -10,8 +11,6 @@ use Rattle.circuit.specs.declared.Failure.{Failure}
 use Rattle.circuit.specs.declared.Failure.TheVariants.{Sec, Cgc, Nnc, Adi, Cfl, Ssb, Unn, Los, Sst}
 use Rattle.circuit.specs.declared.Signal.{Signal}
 use Rattle.circuit.specs.declared.Signal.TheVariants.{Iam, Acm, Anc, Ann, Cbk, Clf, Ran, Rlg, Blo, Bla, Ubl, Uba, Rsc, Fail}
-use Rattle.codes.specs.declared.NamedFailure.TheVariants.{IsFailure}
-use Rattle.codes.specs.declared.Named.TheVariants.{Known}
 use Rattle.codes.specs.Headings.{failure_heading, heading_of, among_failures, failing, among}
 use Rattle.circuit.proofs.Every.{at_below, alike, alike_same}
 use Rattle.formats.specs.Way.{group_of}
@@ -125,7 +124,7 @@ among_failures_lem h (f ∷ fs) e = go (eqb h (failure_heading f)) refl (λ q. a
   where
     go : (b : Bool) → eqb h (failure_heading f) ≡ b → (is_known (failing (among_failures h fs)) ≡ true → h < 256) → h < 256
     go true p more = same_octet h (failure_heading f) p (failure_octet f)
-    go false p more = more (sym (ap (λ (b : Bool). is_known (failing (cond b (IsFailure f) (among_failures h fs)))) p) ∙ e)
+    go false p more = more (sym (ap (λ (b : Bool). is_known (failing (cond b (Some f) (among_failures h fs)))) p) ∙ e)
 
 among_octet : (h : ℕ) (ss : List Signal) → is_known (among h ss) ≡ true → h < 256
 among_octet h [] e = among_failures_lem h (Sec ∷ Cgc ∷ Nnc ∷ Adi ∷ Cfl ∷ Ssb ∷ Unn ∷ Los ∷ Sst ∷ []) e
@@ -133,7 +132,7 @@ among_octet h (s ∷ ss) e = go (eqb h (heading_of s)) refl (λ q. among_octet h
   where
     go : (b : Bool) → eqb h (heading_of s) ≡ b → (is_known (among h ss) ≡ true → h < 256) → h < 256
     go true p more = same_octet h (heading_of s) p (signal_octet s)
-    go false p more = more (sym (ap (λ (b : Bool). is_known (cond b (Known s) (among h ss))) p) ∙ e)
+    go false p more = more (sym (ap (λ (b : Bool). is_known (cond b (Some s) (among h ss))) p) ∙ e)
 
 pub octet : (h : ℕ) → listed h ≡ true → h < 256
 octet h = among_octet h (Iam ∷ Acm 0 ∷ Anc ∷ Ann ∷ Cbk ∷ Clf ∷ Ran ∷ Rlg ∷ Blo ∷ Bla ∷ Ubl ∷ Uba ∷ Rsc ∷ [])

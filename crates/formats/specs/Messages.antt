@@ -1,9 +1,8 @@
 -- The formats of the messages (Q.723; docs/RULES.md, "Messages on the link"): the label, the heading, and what stands behind the heading. A message
 -- with fields of its own is a format and a line of the list below.
 -- Assumes nothing.
-use Rattle.std.specs.Prelude.{Bool, true, false, cond, List, [], ◌∷◌, ◌++◌, ℕ, ◌+◌, ◌/◌, eqb}
-use Rattle.codes.specs.declared.Named.{Named}
-use Rattle.codes.specs.declared.Named.TheVariants.{Known, Unknown}
+use Rattle.circuit.specs.declared.Signal.{Signal}
+use Rattle.std.specs.Prelude.{Bool, true, false, cond, List, [], ◌∷◌, ◌++◌, ℕ, ◌+◌, ◌/◌, eqb, Option, Some, None}
 use Rattle.codes.specs.Headings.{signal_of}
 use Rattle.formats.specs.Format.{Field, field, spare, Behind, nothing, address_signals, Format, octets_for, DPC, OPC, CIC, HEADING, ACM, CATEGORY, INDICATORS, COUNT}
 
@@ -92,9 +91,9 @@ fixed_length h = octets_for (format_of h) 0
 
 -- HEADINGS
 
-abbrev pub is_known : Named → Bool
-is_known (Known s) = true
-is_known Unknown = false
+abbrev pub is_known : Option Signal → Bool
+is_known (Some s) = true
+is_known None = false
 
 -- a heading that is listed (docs/RULES.md, "Events and answers")
 abbrev pub listed : ℕ → Bool

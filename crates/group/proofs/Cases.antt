@@ -1,5 +1,7 @@
 -- The cases of an event on a circuit of a table, each from the tests that lead to it, and that the program's way comes to the definition's answer.
 -- Assumes nothing.
+use Rattle.std.specs.Prelude.{Option}
+use Rattle.circuit.specs.declared.Event.{Event}
 use mathlib.Core.Path.{◌≡◌, refl, sym, subst}
 use mathlib.Core.Bool.{Bool, true, false, not, cond, ◌&&◌}
 use mathlib.Core.List.{List, [], ◌∷◌, ◌++◌}
@@ -13,7 +15,6 @@ use Rattle.circuit.specs.declared.Outcome.{Outcome}
 use Rattle.circuit.specs.Records.{valid}
 use Rattle.circuit.specs.Groups.{bad_group, controls}
 use Rattle.circuit.specs.Refusals.{refuse, first_rule}
-use Rattle.codes.specs.declared.Found.{Found}
 use Rattle.words.specs.Words.{largest}
 use Rattle.step.specs.Step.{step_found}
 use Rattle.step.specs.Refusals.{found_rules}
@@ -25,7 +26,7 @@ use Rattle.group.specs.Refusals.{spent}
 use Rattle.group.specs.Table.{nowhere, refused_at, stored, released, answering, outcome_at, step_in}
 use Rattle.group.specs.Way.{accepted, landed, on_circuit}
 
-module _ (c : Bool) (table : List ℕ) (cic : ℕ) (event : Found) where
+module _ (c : Bool) (table : List ℕ) (cic : ℕ) (event : Option Event) where
   pub no_flags : 15 < flags_at table cic → on_circuit c table cic event ≡ refused_at 12 table cic
   unfolding on_circuit
   no_flags h = simp (lt-ltb _ _ h)
@@ -46,7 +47,7 @@ refused_here : (n : ℕ) (table : List ℕ) (cic : ℕ) (o : Outcome) → 3 ≤ 
 refused_here zero table cic o h = absurd (omega arith)
 refused_here (suc n) table cic o h = rw (lt-leb (suc n) 2 (omega arith)) refl
 
-module _ (own far : ℕ) (table : List ℕ) (cic : ℕ) (event : Found) where
+module _ (own far : ℕ) (table : List ℕ) (cic : ℕ) (event : Option Event) where
   abbrev c : Bool
   c = controls own far cic
 

@@ -1,5 +1,7 @@
 -- The program's way with an answer as a number leads to what the definitions say.
 -- Assumes nothing.
+use Rattle.std.specs.Prelude.{Option}
+use Rattle.circuit.specs.declared.Event.{Event}
 use mathlib.Core.Path.{◌≡◌, refl, sym, ap, ◌∙◌, subst}
 use mathlib.Core.Bool.{Bool, true, false, not, cond, ◌&&◌, ◌||◌}
 use mathlib.Core.List.{List}
@@ -11,7 +13,6 @@ use borrow.Author.Tests.{le-leb, lt-leb, leb-true, leb-false, eqb-true, eqb-fals
 use Rattle.circuit.specs.declared.Outcome.{Outcome}
 use Rattle.circuit.specs.Records.{valid}
 use Rattle.circuit.proofs.Every.{left}
-use Rattle.codes.specs.declared.Found.{Found}
 use Rattle.words.specs.Words.{largest}
 use Rattle.answers.specs.Answers.{Answer, refusal, word, packed, Unpacked}
 use Rattle.layout.specs.declared.Stored.{Stored}
@@ -104,7 +105,7 @@ module _ (table : List ℕ) (cic : ℕ) (o : Outcome) (w : ℕ) (is : w ≡ pack
           (accepts (eqb-true _ _ e) (freed s o))
       go false e = kept' (eqb-false _ _ e)
 
-module _ (c : Bool) (table : List ℕ) (cic : ℕ) (event : Found) where
+module _ (c : Bool) (table : List ℕ) (cic : ℕ) (event : Option Event) where
   abbrev o : Outcome
   o = step_found c (record_at table cic) event
 

@@ -1,5 +1,7 @@
 -- What holds of every event on every circuit of every table, for any circuit number.
 -- Assumes nothing.
+use Rattle.std.specs.Prelude.{Option}
+use Rattle.circuit.specs.declared.Event.{Event}
 use mathlib.Core.Path.{◌≡◌, refl, sym, ap, ◌∙◌, subst}
 use mathlib.Core.Bool.{Bool, true, false, cond}
 use mathlib.Core.List.{List}
@@ -13,7 +15,6 @@ use Rattle.circuit.specs.declared.Outcome.{Outcome}
 use Rattle.circuit.specs.declared.Sends.TheVariants.{Nothing}
 use Rattle.circuit.specs.Groups.{bad_group, controls}
 use Rattle.circuit.specs.Rows as Rows
-use Rattle.codes.specs.declared.Found.{Found}
 use Rattle.step.proofs.Refused.{keeps_found}
 use Rattle.step.specs.Frees.{freed}
 use Rattle.words.specs.Words.{largest}
@@ -49,7 +50,7 @@ pub record Carries (cic : ℕ) (o : Outcome) (s : Step) : Type 0 where
   pub sends : s.answer.sends ≡ o.sends
   pub ind : s.answer.ind ≡ o.ind
 
-module _ (own far : ℕ) (table : List ℕ) (cic : ℕ) (event : Found) where
+module _ (own far : ℕ) (table : List ℕ) (cic : ℕ) (event : Option Event) where
   -- whatever holds of each way to be refused, and of an accepted event that frees the circuit or does not, holds of a step
   pub by_cases : (P : Step → Type 0)
       → P (nowhere 1 table)

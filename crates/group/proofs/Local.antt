@@ -1,6 +1,8 @@
 -- What an event answers and leaves at its circuit depends on what is held there alone, but for 13, which looks at the counter (docs/RULES.md, "Two
 -- circuits, either order").
 -- Assumes nothing.
+use Rattle.std.specs.Prelude.{Option, Some, None}
+use Rattle.circuit.specs.declared.Event.{Event}
 use mathlib.Core.Path.{◌≡◌, refl, sym, ◌∙◌, subst}
 use mathlib.Core.Bool.{Bool, true, false, not, cond}
 use mathlib.Core.List.{List, [], ◌∷◌, ◌++◌}
@@ -14,8 +16,6 @@ use Rattle.circuit.specs.Groups.{controls}
 use Rattle.circuit.specs.Refusals.{Rule, refuse, first_rule}
 use Rattle.circuit.proofs.Every.{left, right, both, is_true}
 use Rattle.circuit.proofs.Refusals.{every_number, but_for_last, last_holds, only_last}
-use Rattle.codes.specs.declared.Found.{Found}
-use Rattle.codes.specs.declared.Found.TheVariants.{Is, Missing}
 use Rattle.words.specs.Words.{largest}
 use Rattle.step.specs.Refusals.{found_rules}
 use Rattle.step.specs.Step.{step_found}
@@ -28,7 +28,7 @@ use Rattle.group.proofs.Laws.{saying, by_cases, answers, refusals}
 use Rattle.group.proofs.Ranks.{frees_rises}
 
 -- a circuit's event leaves there what its answer shows, and what was there if it is refused
-pub leaves : (own far : ℕ) (table : List ℕ) (cic : ℕ) (event : Found)
+pub leaves : (own far : ℕ) (table : List ℕ) (cic : ℕ) (event : Option Event)
     → let s = step_in own far table cic event in held_at s.table cic ≡ cond (eqb s.answer.refusal 0) (holding s.answer.state s.answer.flags) (held_at table cic)
 leaves own far table cic event =
     by_cases own far table cic event (λ s. held_at s.table cic ≡ cond (eqb s.answer.refusal 0) (holding s.answer.state s.answer.flags) (held_at table cic))
@@ -40,7 +40,7 @@ leaves own far table cic event =
     r = (outcome_at own far table cic event).after
 
 -- two tables of a group that hold the same at a circuit
-module _ (own far : ℕ) (t u : List ℕ) (cic : ℕ) (event : Found) (group : group_in t ≡ group_in u) (same : held_at t cic ≡ held_at u cic) where
+module _ (own far : ℕ) (t u : List ℕ) (cic : ℕ) (event : Option Event) (group : group_in t ≡ group_in u) (same : held_at t cic ≡ held_at u cic) where
   -- the rules before 13, and the first that holds by what 13 asks
   abbrev before13 : List ℕ → List Rule
   before13 table = circuit_rules own far (group_in table) cic (held_at table cic) event
@@ -79,11 +79,11 @@ module _ (own far : ℕ) (t u : List ℕ) (cic : ℕ) (event : Found) (group : g
       (is_true (frees (held_at t cic)) (subst (λ (h : Held). T (frees h)) (sym same) (left (frees (held_at u cic)) (leb largest (counter_in u)) k.0)))
     where
       -- no rule before 13 has that number
-      earlier : (event : Found) → T (every_number (λ k. not (eqb k 13)) (found_rules (record_at u cic) event))
-      earlier (Is (Arrives s)) = tt
-      earlier (Is (Ordered k)) = tt
-      earlier (Is (RunsOut t)) = tt
-      earlier Missing = tt
+      earlier : (event : Option Event) → T (every_number (λ k. not (eqb k 13)) (found_rules (record_at u cic) event))
+      earlier (Some (Arrives s)) = tt
+      earlier (Some (Ordered k)) = tt
+      earlier (Some (RunsOut t)) = tt
+      earlier None = tt
 
       k : T (full u) × ((b : Bool) → refused_by u b ≡ cond b 13 0)
       k = only_last (before13 u) 12 (full u) (earlier event) (sym (refuses u) ∙ e)

@@ -1,5 +1,7 @@
 -- Release ranks (docs/RULES.md, under that title): what every event does to the counter and the ranks, and that ranks tell which was freed later.
 -- Assumes nothing.
+use Rattle.std.specs.Prelude.{Option}
+use Rattle.circuit.specs.declared.Event.{Event}
 use mathlib.Core.Path.{◌≡◌, refl, sym, ◌∙◌, subst}
 use mathlib.Core.Bool.{Bool, true, false, not, cond, ◌&&◌}
 use mathlib.Core.List.{List}
@@ -13,7 +15,6 @@ use Rattle.circuit.specs.declared.Outcome.{Outcome}
 use Rattle.circuit.specs.Records.{valid}
 use Rattle.circuit.specs.Groups.{controls}
 use Rattle.circuit.specs.Refusals.{first_rule}
-use Rattle.codes.specs.declared.Found.{Found}
 use Rattle.step.specs.Refusals.{found_rules}
 use Rattle.step.specs.Frees.{frees_found}
 use Rattle.step.proofs.Always.{frees_listed_found}
@@ -71,7 +72,7 @@ module _ (table : List ℕ) (cic : ℕ) (r : Record) (h : cic < records_in (leng
       taken i false e = other_rank (put table cic r) cic i n (eqb-false i cic e) ∙ put_keeps_rank table cic i r
 
 -- every event on every table
-pub counted : (own far : ℕ) (table : List ℕ) (cic : ℕ) (event : Found) → Counted table (step_in own far table cic event).table cic
+pub counted : (own far : ℕ) (table : List ℕ) (cic : ℕ) (event : Option Event) → Counted table (step_in own far table cic event).table cic
 counted own far table cic event =
     by_cases own far table cic event (λ s. Counted table s.table cic)
     (untouched table cic) (untouched table cic) (λ n h. untouched table cic)
@@ -79,7 +80,7 @@ counted own far table cic event =
     (λ h l a f k. released_counts table cic _ h f k)
 
 -- it rises where an event that frees the circuit is accepted, and only from below its largest value
-module _ (own far : ℕ) (table : List ℕ) (cic : ℕ) (event : Found) where
+module _ (own far : ℕ) (table : List ℕ) (cic : ℕ) (event : Option Event) where
   abbrev o : Outcome
   o = outcome_at own far table cic event
 
@@ -192,7 +193,7 @@ freed_counter : {before after : List ℕ} {cic : ℕ} → Counted before after c
 freed_counter c f = rw f at c.counter
 
 -- a circuit that is freed later has the higher rank: of two events with any others between them, the first frees i and the second j
-pub later : (own far : ℕ) (first second : List ℕ) (i j : ℕ) (e f : Found)
+pub later : (own far : ℕ) (first second : List ℕ) (i j : ℕ) (e f : Option Event)
     → idled first (step_in own far first i e).table i ≡ true
     → Follows own far (step_in own far first i e).table second
     → idled second (step_in own far second j f).table j ≡ true
@@ -201,7 +202,7 @@ later own far first second i j e f p between q =
     omega (arith, freed_rank (counted own far first i e) p, freed_counter (counted own far first i e) p, never_falls between, freed_rank (counted own far second j f) q)
 
 -- 13 is given at the largest value only
-pub spent_at : (own far : ℕ) (table : List ℕ) (cic : ℕ) (event : Found) → (step_in own far table cic event).answer.refusal ≡ 13 → largest ≤ counter_in table
+pub spent_at : (own far : ℕ) (table : List ℕ) (cic : ℕ) (event : Option Event) → (step_in own far table cic event).answer.refusal ≡ 13 → largest ≤ counter_in table
 spent_at own far table cic event e = (high own far table cic event 13 (omega arith) e).1 refl
 
 -- so a group that starts idle answers 13 at none of its first 2^64 - 1 events
@@ -215,6 +216,6 @@ at_most_one_each {own} {far} {first} (next {table} f cic event) =
     omega (arith, once (idled table (step_in own far table cic event).table cic) (counter_in table) (counter_in (step_in own far table cic event).table) (counter_in first + events f) (counted own far table cic event).counter (at_most_one_each f))
 
 pub never13 : {own far : ℕ} {table : List ℕ} (octets : ℕ) (f : Follows own far (idle octets) table) → events f < largest
-    → (cic : ℕ) (event : Found) → (step_in own far table cic event).answer.refusal ≡ 13 → ⊥
+    → (cic : ℕ) (event : Option Event) → (step_in own far table cic event).answer.refusal ≡ 13 → ⊥
 never13 {own} {far} {table} octets f few cic event e =
     omega (arith, spent_at own far table cic event e, at_most_one_each f, idle_counter octets)

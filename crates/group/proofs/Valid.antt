@@ -1,5 +1,7 @@
 -- A table of valid records stays one, so a group that starts idle never answers 12.
 -- Assumes nothing.
+use Rattle.std.specs.Prelude.{Option, Some, None}
+use Rattle.circuit.specs.declared.Event.{Event}
 use mathlib.Core.Path.{◌≡◌, refl, sym, ◌∙◌, subst}
 use mathlib.Core.Bool.{Bool, true, false, not, cond}
 use mathlib.Core.List.{List, [], ◌∷◌, ◌++◌}
@@ -14,8 +16,6 @@ use Rattle.circuit.specs.Groups.{bad_group, controls}
 use Rattle.circuit.specs.Rows.{refused}
 use Rattle.circuit.specs.Refusals.{refuse, first_rule}
 use Rattle.circuit.proofs.Every.{left, right, both}
-use Rattle.codes.specs.declared.Found.{Found}
-use Rattle.codes.specs.declared.Found.TheVariants.{Is, Missing}
 use Rattle.step.specs.Step.{step_found}
 use Rattle.step.specs.Refusals.{found_rules}
 use Rattle.step.proofs.Refused.{low_refusal, then_last}
@@ -42,10 +42,10 @@ low_flags table i t = leb→le _ _ (left (leb (flags_at table i) 15) (valid (rec
 pub valid_at : (table : List ℕ) (i : ℕ) → T (allowed_at table i) → T (valid (record_at table i))
 valid_at table i t = right (leb (flags_at table i) 15) (valid (record_at table i)) t
 
-kept_found : (c : Bool) (r : Record) (f : Found) → T (valid r) → T (valid (step_found c r f).after)
+kept_found : (c : Bool) (r : Record) (f : Option Event) → T (valid r) → T (valid (step_found c r f).after)
 unfolding step_found
-kept_found c r (Is e) v = kept c r e v
-kept_found c r Missing v = go (valid r)
+kept_found c r (Some e) v = kept c r e v
+kept_found c r None v = go (valid r)
   where
     go : (b : Bool) → T (valid (cond b (refused 3 r) (refused 12 r)).after)
     go true = v
@@ -71,7 +71,7 @@ ranked_valid table cic n v i k =
     allowed_by (ranked table cic n) i (rw (ranked_flags table cic i n) (low_flags table i was)) (rw (ranked_record table cic i n) (valid_at table i was))
 
 -- an event's own refusals are at most 6, and behind them comes 13 at the most
-pub behind : (r : Record) (f : Found) (b : Bool) (n : ℕ) → 6 < n → first_rule (found_rules r f ++ (refuse 13 b ∷ [])) ≡ n → (n ≡ 13) × T b
+pub behind : (r : Record) (f : Option Event) (b : Bool) (n : ℕ) → 6 < n → first_rule (found_rules r f ++ (refuse 13 b ∷ [])) ≡ n → (n ≡ 13) × T b
 behind r f b n h e = go (eqb (first_rule (found_rules r f)) 0) b (first_rule (found_rules r f)) (low_refusal r f) (sym (then_last r f 13 b) ∙ e)
   where
     go : (x b : Bool) (m : ℕ) → m ≤ 6 → cond x (cond b 13 0) m ≡ n → (n ≡ 13) × T b
@@ -79,7 +79,7 @@ behind r f b n h e = go (eqb (first_rule (found_rules r f)) 0) b (first_rule (fo
     go true false m l k = absurd (omega arith)
     go false b m l k = absurd (omega arith)
 
-module _ (own far : ℕ) (table : List ℕ) (cic : ℕ) (event : Found) where
+module _ (own far : ℕ) (table : List ℕ) (cic : ℕ) (event : Option Event) where
   -- a refusal above 6 is 12 for the record, or 13
   pub high : (n : ℕ) → 6 < n → (step_in own far table cic event).answer.refusal ≡ n
       → (n ≡ 12 → (cic < records_in (length table)) × (allowed_at table cic ≡ false)) × (n ≡ 13 → largest ≤ counter_in table)
@@ -99,7 +99,7 @@ module _ (own far : ℕ) (table : List ℕ) (cic : ℕ) (event : Found) where
       go false false f true g m k h =
           (λ z. absurd (omega (arith, (k h).0)), λ z. leb→le _ _ (right (frees_found (controls own far cic) (state_at table cic) event) (leb largest (counter_in table)) (k h).1))
 
-module _ (own far : ℕ) (table : List ℕ) (cic : ℕ) (event : Found) (v : ValidTable table) where
+module _ (own far : ℕ) (table : List ℕ) (cic : ℕ) (event : Option Event) (v : ValidTable table) where
   pub stays_valid : ValidTable (step_in own far table cic event).table
   stays_valid =
       by_cases own far table cic event (λ s. ValidTable s.table) v v (λ n h. v)
@@ -121,5 +121,5 @@ follows_valid v start = v
 follows_valid {own} {far} v (next {table} f cic event) = stays_valid own far table cic event (follows_valid v f)
 
 -- a group that starts idle never answers 12
-pub never12 : {own far : ℕ} {table : List ℕ} (octets : ℕ) → Follows own far (idle octets) table → (cic : ℕ) (event : Found) → (step_in own far table cic event).answer.refusal ≡ 12 → ⊥
+pub never12 : {own far : ℕ} {table : List ℕ} (octets : ℕ) → Follows own far (idle octets) table → (cic : ℕ) (event : Option Event) → (step_in own far table cic event).answer.refusal ≡ 12 → ⊥
 never12 {own} {far} {table} octets f cic event = not12_in own far table cic event (follows_valid (idle_valid octets) f)

@@ -1,15 +1,15 @@
 -- Events that are handed over in a batch (docs/RULES.md, "Two circuits, either order"): one after another, each on its own circuit.
 -- Assumes nothing.
-use Rattle.std.specs.Prelude.{◌≡◌, cond, ℕ, ◌≤◌, eqb, length}
+use Rattle.circuit.specs.declared.Event.{Event}
+use Rattle.std.specs.Prelude.{◌≡◌, cond, ℕ, ◌≤◌, eqb, length, Option}
 use mathlib.Core.List.{List, [], ◌∷◌, Permᴰ}
-use Rattle.codes.specs.declared.Found.{Found}
 use Rattle.answers.specs.Answers.{Answer}
 use Rattle.group.specs.Table.{Step, step_in}
 
 -- an event for a circuit
 pub record Handed : Type 0 where
   pub cic : ℕ
-  pub event : Found
+  pub event : Option Event
 
 -- and what it answered
 pub record Answered : Type 0 where

@@ -1,10 +1,10 @@
 -- An event on a circuit of a group whose records lie in a lent table (docs/RULES.md, "Events
 -- and answers" and "Release ranks"): what is answered, and what the table holds then.
 -- Assumes nothing.
-use Rattle.std.specs.Prelude.{cond, List, ℕ, zero, suc, ◌+◌, leb}
+use Rattle.circuit.specs.declared.Event.{Event}
+use Rattle.std.specs.Prelude.{cond, List, ℕ, zero, suc, ◌+◌, leb, Option}
 use Rattle.circuit.specs.declared.Outcome.{Outcome}
 use Rattle.circuit.specs.Groups.{controls}
-use Rattle.codes.specs.declared.Found.{Found}
 use Rattle.step.specs.Step.{step_found}
 use Rattle.step.specs.Frees.{freed}
 use Rattle.answers.specs.Answers.{Answer, refusal}
@@ -48,8 +48,8 @@ answering zero table cic o = taking table cic o
 answering (suc n) table cic o = refused_in (suc n) table cic
 
 -- what one circuit's step says: on this circuit's record, in our role there
-abbrev pub outcome_at : (own far : ℕ) → List ℕ → (cic : ℕ) → Found → Outcome
+abbrev pub outcome_at : (own far : ℕ) → List ℕ → (cic : ℕ) → Option Event → Outcome
 outcome_at own far table cic event = step_found (controls own far cic) (record_at table cic) event
 
-unfoldable pub step_in : (own far : ℕ) → List ℕ → (cic : ℕ) → Found → Step
+unfoldable pub step_in : (own far : ℕ) → List ℕ → (cic : ℕ) → Option Event → Step
 step_in own far table cic event = answering (refusal_in own far table cic event) table cic (outcome_at own far table cic event)

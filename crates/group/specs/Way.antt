@@ -1,8 +1,8 @@
 -- The program's way through an event on a circuit, test by test. The contracts of private functions cite it; no promise leans on it.
 -- Assumes nothing.
-use Rattle.std.specs.Prelude.{Bool, cond, List, ℕ, eqb, leb, ltb}
+use Rattle.circuit.specs.declared.Event.{Event}
+use Rattle.std.specs.Prelude.{Bool, cond, List, ℕ, eqb, leb, ltb, Option}
 use Rattle.circuit.specs.declared.Outcome.{Outcome}
-use Rattle.codes.specs.declared.Found.{Found}
 use Rattle.words.specs.Words.{largest}
 use Rattle.step.specs.Step.{step_found}
 use Rattle.step.specs.Frees.{freed}
@@ -28,7 +28,7 @@ landed table cic o =
 
 -- a circuit of the group, c: our end controls it. 12 for flags that are none; then what the step of one circuit says: 12, 3, and 5, 4 or 6;
 -- last 13
-unfoldable pub on_circuit : (c : Bool) → List ℕ → (cic : ℕ) → Found → Step
+unfoldable pub on_circuit : (c : Bool) → List ℕ → (cic : ℕ) → Option Event → Step
 on_circuit c table cic event =
     cond (ltb 15 (flags_at table cic)) (refused_at 12 table cic)
     (landed table cic (step_found c (record_at table cic) event))

@@ -1,5 +1,8 @@
-// The numbers of docs/RULES.md by name, as tup.h has them: states, flags, indications, refusals and the headings that an event sends. No functions.
+// The numbers of docs/RULES.md by name, as tup.h has them: states, flags, indications, refusals and the headings that an event sends.
 #![tactic(auto)]
+
+ghost use Rattle.std.specs.Prelude.{◌≡◌};
+ghost use Rattle.names.specs.Refusal.{number_of};
 
 // A circuit's states.
 pub const IDLE: u8 = 0;
@@ -50,38 +53,36 @@ pub const IND_ALERT_MAINTENANCE: u8 = 8;
 
 pub const IND_CALL_FAILED: u8 = 10;
 
-// Refusals.
+// Why an event, a choice or a message is refused. `number` is what the paper calls it, and what a host in C is told.
+#[derive(Clone, Copy, Debug, PartialEq, Eq)]
+pub enum Refusal {
+    NoSuchGroup = 1,
+    NoSuchCircuit = 2,
+    NoSuchEvent = 3,
+    FarBlocked = 4,
+    CommandNotAllowed = 5,
+    TimerNotRunning = 6,
+    WrongLength = 7,
+    WrongLabel = 8,
+    NoSuchHeading = 9,
+    WrongAddress = 10,
+    OutputTooShort = 11,
+    BadRecord = 12,
+    CounterFull = 13,
+    NoCircuit = 14,
+    ShortNumber = 17,
+}
+
+impl From<Refusal> for u8 {
+    ghost from_gives = { λ r n. n ≡ number_of r };
+
+    fn from(r: Refusal) -> u8 {
+        r as u8
+    }
+}
+
+// What an answer says where nothing is refused.
 pub const ACCEPTED: u8 = 0;
-
-pub const NO_SUCH_GROUP: u8 = 1;
-
-pub const NO_SUCH_CIRCUIT: u8 = 2;
-
-pub const NO_SUCH_EVENT: u8 = 3;
-
-pub const FAR_BLOCKED: u8 = 4;
-
-pub const COMMAND_NOT_ALLOWED: u8 = 5;
-
-pub const TIMER_NOT_RUNNING: u8 = 6;
-
-pub const WRONG_LENGTH: u8 = 7;
-
-pub const WRONG_LABEL: u8 = 8;
-
-pub const NO_SUCH_HEADING: u8 = 9;
-
-pub const WRONG_ADDRESS: u8 = 10;
-
-pub const OUTPUT_TOO_SHORT: u8 = 11;
-
-pub const BAD_RECORD: u8 = 12;
-
-pub const COUNTER_FULL: u8 = 13;
-
-pub const NO_CIRCUIT: u8 = 14;
-
-pub const SHORT_NUMBER: u8 = 17;
 
 // Headings; no heading stands for no signal.
 pub const NO_SIGNAL: u8 = 0;

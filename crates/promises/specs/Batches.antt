@@ -3,15 +3,13 @@
 -- Left out are the release ranks and the counter, and with them the choice of a circuit and refusal 13, which go by these. At the end of the page are
 -- examples in which they depend on the order, and one of two events on one circuit.
 -- Assumes nothing.
-use Rattle.std.specs.Prelude.{◌≡◌, refl, cond, List, [], ◌∷◌, ◌++◌, map, ℕ, ◌+◌, ◌-◌, ◌≤◌, eqb, length, replicate}
+use Rattle.std.specs.Prelude.{◌≡◌, refl, cond, List, [], ◌∷◌, ◌++◌, map, ℕ, ◌+◌, ◌-◌, ◌≤◌, eqb, length, replicate, Option, Some}
 use mathlib.Core.List.Permᴰ
 use Rattle.circuit.specs.declared.Signal.TheVariants.{Iam, Clf}
 use Rattle.circuit.specs.declared.Command.TheVariants.{Seize}
 use Rattle.circuit.specs.declared.Event.{Event}
 use Rattle.circuit.specs.declared.Event.TheVariants.{Arrives, Ordered}
 use Rattle.circuit.specs.Rows.{first}
-use Rattle.codes.specs.declared.Found.{Found}
-use Rattle.codes.specs.declared.Found.TheVariants.{Is}
 use Rattle.words.specs.Words.{largest, number, put}
 use Rattle.step.specs.Step.{step, step_found}
 use Rattle.layout.specs.Layout.{group_in, held_at, records_in, counter_in, state_at, flags_at, rank_at, record_of, flags_of, put_octets, put_rank, put_counter, idle}
@@ -36,7 +34,7 @@ held_is table i = refl
 
 -- But for 13, what an event answers, and what it leaves at its circuit, depends on what is held of that circuit alone: in two tables of one group that
 -- hold the same there it is the same, whatever else they hold.
-pub its_circuit_alone : (own far : ℕ) (t u : List ℕ) (cic : ℕ) (event : Found) → group_in t ≡ group_in u → held_at t cic ≡ held_at u cic
+pub its_circuit_alone : (own far : ℕ) (t u : List ℕ) (cic : ℕ) (event : Option Event) → group_in t ≡ group_in u → held_at t cic ≡ held_at u cic
     → ((step_in own far t cic event).answer.refusal ≡ 13 → ⊥) → ((step_in own far u cic event).answer.refusal ≡ 13 → ⊥)
     → ((step_in own far t cic event).answer ≡ (step_in own far u cic event).answer)
     × (held_at (step_in own far t cic event).table cic ≡ held_at (step_in own far u cic event).table cic)
@@ -47,7 +45,7 @@ its_circuit_alone own far t u cic event group held p q = (local.same_answer own 
 -- Two events on different circuits, of which neither is refused 13 in one order, be they accepted or refused otherwise: each answers the same in the
 -- other order, with its refusal, state and flags, signals and indication, and in the end the table holds the same of every circuit. Two events that
 -- are accepted in both orders are a case of this.
-pub either_order : (own far : ℕ) (table : List ℕ) (i j : ℕ) (e f : Found) → (i ≡ j → ⊥)
+pub either_order : (own far : ℕ) (table : List ℕ) (i j : ℕ) (e f : Option Event) → (i ≡ j → ⊥)
     → let e_first = step_in own far table i e in
     let f_then = step_in own far e_first.table j f in
     let f_first = step_in own far table j f in
@@ -138,7 +136,7 @@ module _ (own far : ℕ) (table : List ℕ) where
 
 -- our code is 2 and the far one 1, so we control the even circuits
 abbrev on : ℕ → Event → Handed
-on i e = record { cic = i; event = Is e }
+on i e = record { cic = i; event = Some e }
 
 -- three circuits, of which 0 and 2 have incoming calls; the counter's lowest octet, and its others
 abbrev three : ℕ → ℕ → List ℕ

@@ -3,7 +3,7 @@
 -- That there is an answer for all arguments is what the check of the program shows: no public function has a `requires`, and each ends. Here stands
 -- which refusal is given exactly when, and that it changes nothing. `first_rule` is the number of the first rule that holds, 0 for none.
 -- Assumes nothing.
-use Rattle.std.specs.Prelude.{◌≡◌, refl, Bool, true, false, cond, not, ◌&&◌, ◌||◌, List, [], ◌∷◌, ◌++◌, ◌↔◌, ℕ, suc, ◌+◌, ◌/◌, ◌%◌, ◌<◌, ◌≤◌, min, eqb, leb, ltb, length, get_or, take, drop, replicate}
+use Rattle.std.specs.Prelude.{◌≡◌, refl, Bool, true, false, cond, not, ◌&&◌, ◌||◌, List, [], ◌∷◌, ◌++◌, ◌↔◌, ℕ, suc, ◌+◌, ◌/◌, ◌%◌, ◌<◌, ◌≤◌, min, eqb, leb, ltb, length, get_or, take, drop, replicate, Option, Some, None}
 use Rattle.std.proofs.Common.{ap, ◌∙◌, subst, le-leb, lt-ltb, arith}
 use Rattle.std.proofs.lemmas.Bool.{lt-leb}
 use Rattle.circuit.proofs.Every.{both_hold}
@@ -19,8 +19,6 @@ use Rattle.circuit.specs.Rows.{refused}
 use Rattle.circuit.specs.Groups.{bad_group, controls}
 use Rattle.circuit.specs.Refusals.{Rule, refuse, first_rule, Given, Clear}
 use Rattle.circuit.proofs.Refusals.{alike, answered, accepted}
-use Rattle.codes.specs.declared.Found.{Found}
-use Rattle.codes.specs.declared.Found.TheVariants.{Is, Missing}
 use Rattle.codes.specs.Numbers.{event_of}
 use Rattle.codes.specs.Headings.{heading_of, octet_of}
 use Rattle.codes.specs.Back.{numbers_of}
@@ -55,7 +53,7 @@ use Rattle.inverse.proofs.Host.{into_kept, from_kept, from_filled, into_filled}
 -- EVENTS
 
 -- the order for events: 1, 2, 12, 3, then 5, 4 or 6, and last 13
-abbrev pub event_rules : (own far : ℕ) → List ℕ → (cic : ℕ) → Found → List Rule
+abbrev pub event_rules : (own far : ℕ) → List ℕ → (cic : ℕ) → Option Event → List Rule
 event_rules own far table cic event =
     refuse 1 (bad_group own far (records_in (length table)))
     ∷ refuse 2 (leb (records_in (length table)) cic)
@@ -63,29 +61,29 @@ event_rules own far table cic event =
     ∷ (found_rules (record_at table cic) event
     ++ (refuse 13 (frees_found (controls own far cic) (state_at table cic) event && leb largest (counter_in table)) ∷ []))
 
-pub event_refused : (own far : ℕ) (table : List ℕ) (cic : ℕ) (event : Found) → (step_in own far table cic event).answer.refusal ≡ first_rule (event_rules own far table cic event)
+pub event_refused : (own far : ℕ) (table : List ℕ) (cic : ℕ) (event : Option Event) → (step_in own far table cic event).answer.refusal ≡ first_rule (event_rules own far table cic event)
 event_refused = group.refusals
 
 -- each number is given exactly when its rule holds and none before it does
-pub event_given : (own far : ℕ) (table : List ℕ) (cic : ℕ) (event : Found) (n : ℕ)
+pub event_given : (own far : ℕ) (table : List ℕ) (cic : ℕ) (event : Option Event) (n : ℕ)
     → ((step_in own far table cic event).answer.refusal ≡ suc n) ↔ Given (suc n) (event_rules own far table cic event)
 event_given own far table cic event = answered (event_rules own far table cic event) (step_in own far table cic event).answer.refusal (group.refusals own far table cic event)
 
 -- an event's own: 3 for numbers that name none; of a signal none; of a command 4 and 5; of a timer 6
-pub no_event3 : (r : Record) → found_rules r Missing ≡ refuse 3 true ∷ []
+pub no_event3 : (r : Record) → found_rules r None ≡ refuse 3 true ∷ []
 no_event3 r = refl
 
-pub no_signal : (r : Record) (s : Signal) → found_rules r (Is (Arrives s)) ≡ []
+pub no_signal : (r : Record) (s : Signal) → found_rules r (Some (Arrives s)) ≡ []
 no_signal r s = refl
 
-pub command4or5 : (r : Record) (k : Command) → found_rules r (Is (Ordered k)) ≡ refuse 4 (seizes_blocked r k) ∷ refuse 5 (not (allowed r k)) ∷ []
+pub command4or5 : (r : Record) (k : Command) → found_rules r (Some (Ordered k)) ≡ refuse 4 (seizes_blocked r k) ∷ refuse 5 (not (allowed r k)) ∷ []
 command4or5 r k = refl
 
-pub timer6 : (r : Record) (t : Timer) → found_rules r (Is (RunsOut t)) ≡ refuse 6 (not (runs r t)) ∷ []
+pub timer6 : (r : Record) (t : Timer) → found_rules r (Some (RunsOut t)) ≡ refuse 6 (not (runs r t)) ∷ []
 timer6 r t = refl
 
 -- one circuit's step by value: 12 first, then these
-pub record_refused : (c : Bool) (r : Record) (f : Found) → (step_found c r f).refusal ≡ first_rule (refuse 12 (not (valid r)) ∷ found_rules r f)
+pub record_refused : (c : Bool) (r : Record) (f : Option Event) → (step_found c r f).refusal ≡ first_rule (refuse 12 (not (valid r)) ∷ found_rules r f)
 record_refused = refuses_found
 
 -- 1: a point code is above 16383, the two are equal, or there are 0 or more than 4096 records
@@ -94,16 +92,16 @@ group_refused own far records = refl
 
 -- 3: no such signal, command or timer, or a detail that is not listed. Numbers are read as an event exactly if they are its own; a signal's detail is
 -- ACM's octet, else 0.
-pub signals_read : (s : Signal) → octet_of s ≤ 255 → event_of 1 (heading_of s) (octet_of s) ≡ Is (Arrives s)
+pub signals_read : (s : Signal) → octet_of s ≤ 255 → event_of 1 (heading_of s) (octet_of s) ≡ Some (Arrives s)
 signals_read s h = event_back (Arrives s) h
 
-pub commands_read : (k : Command) → event_of (numbers_of (Ordered k)).0 (numbers_of (Ordered k)).1 (numbers_of (Ordered k)).2 ≡ Is (Ordered k)
+pub commands_read : (k : Command) → event_of (numbers_of (Ordered k)).0 (numbers_of (Ordered k)).1 (numbers_of (Ordered k)).2 ≡ Some (Ordered k)
 commands_read k = event_back (Ordered k) tt
 
-pub timers_read : (t : Timer) → event_of (numbers_of (RunsOut t)).0 (numbers_of (RunsOut t)).1 (numbers_of (RunsOut t)).2 ≡ Is (RunsOut t)
+pub timers_read : (t : Timer) → event_of (numbers_of (RunsOut t)).0 (numbers_of (RunsOut t)).1 (numbers_of (RunsOut t)).2 ≡ Some (RunsOut t)
 timers_read t = event_back (RunsOut t) tt
 
-pub no_others_read : (kind code detail : ℕ) (e : Event) → event_of kind code detail ≡ Is e → numbers_of e ≡ (kind, code, detail)
+pub no_others_read : (kind code detail : ℕ) (e : Event) → event_of kind code detail ≡ Some e → numbers_of e ≡ (kind, code, detail)
 no_others_read = numbers_back
 
 -- 12: the circuit's record has a state above 12, or flags that are not legal there. The legal flags, of 0 to 15, by state; above 15 none are.
@@ -138,7 +136,7 @@ no_flags_above15 s f h = rw (lt-leb f 15 h) refl
 pub no_event_yet : {own far : ℕ} {first : List ℕ} → Follows own far first first
 no_event_yet = Follows.start
 
-pub one_more_event : {own far : ℕ} {first last : List ℕ} → Follows own far first last → (cic : ℕ) (event : Found) → Follows own far first (step_in own far last cic event).table
+pub one_more_event : {own far : ℕ} {first last : List ℕ} → Follows own far first last → (cic : ℕ) (event : Option Event) → Follows own far first (step_in own far last cic event).table
 one_more_event = Follows.next
 
 -- a group that starts idle, its table zeros, never answers 12
@@ -146,15 +144,15 @@ pub idle_is_zeros : (octets : ℕ) → idle octets ≡ replicate octets 0
 idle_is_zeros octets = refl
 
 pub idle_never12 : {own far : ℕ} {table : List ℕ} (octets : ℕ) → Follows own far (idle octets) table
-    → (cic : ℕ) (event : Found) → (step_in own far table cic event).answer.refusal ≡ 12 → ⊥
+    → (cic : ℕ) (event : Option Event) → (step_in own far table cic event).answer.refusal ≡ 12 → ⊥
 idle_never12 = never12
 
 -- a refusal sends nothing, gives indication 0 and changes nothing lent
-pub refused_keeps : (own far : ℕ) (table : List ℕ) (cic : ℕ) (event : Found) → ((step_in own far table cic event).answer.refusal ≡ 0 → ⊥)
+pub refused_keeps : (own far : ℕ) (table : List ℕ) (cic : ℕ) (event : Option Event) → ((step_in own far table cic event).answer.refusal ≡ 0 → ⊥)
     → let s = step_in own far table cic event in (s.table ≡ table) × (s.answer.sends ≡ Nothing) × (s.answer.ind ≡ 0)
 refused_keeps own far table cic event n = let k = group.refused own far table cic event n in (k.table, k.sends, k.ind)
 
-pub record_kept : (c : Bool) (r : Record) (f : Found) → ((step_found c r f).refusal ≡ 0 → ⊥) → step_found c r f ≡ refused (step_found c r f).refusal r
+pub record_kept : (c : Bool) (r : Record) (f : Option Event) → ((step_found c r f).refusal ≡ 0 → ⊥) → step_found c r f ≡ refused (step_found c r f).refusal r
 record_kept = keeps_found
 
 -- so many circuits need so many octets, and those hold so many records

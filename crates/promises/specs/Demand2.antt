@@ -3,7 +3,7 @@
 -- The tables are definitions: `signals/specs/Table`, `commands/specs/Tables`, and the order of refusals before them `step/specs/Step`. The contracts
 -- of the program say that it answers by them (`ByContract`). Here stands what follows from the definitions, in the order of docs/RULES.md.
 -- Assumes nothing.
-use Rattle.std.specs.Prelude.{◌≡◌, refl, Bool, true, false, not, cond, ◌&&◌, List, [], ◌∷◌, ◌++◌, map, ℕ, ◌+◌, ◌-◌, ◌/◌, ◌%◌, ◌<◌, ◌≤◌, T, eqb, leb, ltb, length, get_or, take, drop, replicate}
+use Rattle.std.specs.Prelude.{◌≡◌, refl, Bool, true, false, not, cond, ◌&&◌, List, [], ◌∷◌, ◌++◌, map, ℕ, ◌+◌, ◌-◌, ◌/◌, ◌%◌, ◌<◌, ◌≤◌, T, eqb, leb, ltb, length, get_or, take, drop, replicate, Option, Some, None}
 use Rattle.std.proofs.Common.{ap}
 use Rattle.circuit.specs.declared.Record.{Record}
 use Rattle.circuit.specs.declared.Failure.{Failure}
@@ -21,9 +21,6 @@ use Rattle.circuit.specs.Records.{rec, plain, valid}
 use Rattle.circuit.specs.Groups.{bad_group, controls}
 use Rattle.circuit.specs.Rows.{first, answered, refused}
 use Rattle.circuit.proofs.Groups.{one_controls}
-use Rattle.codes.specs.declared.Found.{Found}
-use Rattle.codes.specs.declared.Named.TheVariants.{Known, Unknown}
-use Rattle.codes.specs.declared.NamedFailure.TheVariants.{IsFailure, NoFailure}
 use Rattle.codes.specs.Headings.{failure_heading, heading_of, octet_of, failure_of, signal_of, named, named_failure}
 use Rattle.codes.proofs.Back.{heading_is, failure_is, failure_named, signal_named}
 use Rattle.words.specs.Octets.{over}
@@ -126,22 +123,22 @@ all = refl
 pub heading_of_each : (s : Signal) → named (signal_of (heading_of s) (octet_of s)) ≡ heading_of s
 heading_of_each s = ap named (signal_named s)
 
-pub signal_of_each : (s : Signal) → signal_of (heading_of s) (octet_of s) ≡ Known s
+pub signal_of_each : (s : Signal) → signal_of (heading_of s) (octet_of s) ≡ Some s
 signal_of_each = signal_named
 
-pub no_other_heading : (heading octet : ℕ) (s : Signal) → signal_of heading octet ≡ Known s → heading_of s ≡ heading
+pub no_other_heading : (heading octet : ℕ) (s : Signal) → signal_of heading octet ≡ Some s → heading_of s ≡ heading
 no_other_heading = heading_is
 
-pub unknown_heading : named Unknown ≡ 0
+pub unknown_heading : named None ≡ 0
 unknown_heading = refl
 
-pub failure_of_each : (f : Failure) → failure_of (failure_heading f) ≡ IsFailure f
+pub failure_of_each : (f : Failure) → failure_of (failure_heading f) ≡ Some f
 failure_of_each = failure_named
 
-pub no_other_failure : (heading : ℕ) (f : Failure) → failure_of heading ≡ IsFailure f → failure_heading f ≡ heading
+pub no_other_failure : (heading : ℕ) (f : Failure) → failure_of heading ≡ Some f → failure_heading f ≡ heading
 no_other_failure = failure_is
 
-pub unknown_failure : named_failure NoFailure ≡ 0
+pub unknown_failure : named_failure None ≡ 0
 unknown_failure = refl
 
 -- an octet of flags and the flags correspond: 1 own block, 2 far block, 4 awaiting BLA, 8 awaiting UBA
@@ -177,7 +174,7 @@ one_end_controls = one_controls
 
 -- An event on a circuit of a table: but for 13, what is answered, and what stands at the circuit then, is what one circuit's step says of its
 -- record in our role there. This holds of every circuit number.
-pub is_one_circuits_step : (own far : ℕ) (table : List ℕ) (cic : ℕ) (event : Found)
+pub is_one_circuits_step : (own far : ℕ) (table : List ℕ) (cic : ℕ) (event : Option Event)
     → bad_group own far (records_in (length table)) ≡ false → cic < records_in (length table) → flags_at table cic ≤ 15
     → ((step_in own far table cic event).answer.refusal ≡ 13 → ⊥)
     → let o = step_found (controls own far cic) (record_at table cic) event in
@@ -188,7 +185,7 @@ is_one_circuits_step own far table cic event good has low not13 =
     let k = group.is_step own far table cic event good has low not13 in (k.refusal, k.shown, k.stored, k.sends, k.ind)
 
 -- an event that is accepted is taken as that step says, and where it frees the circuit the counter goes up by one and the record takes it
-pub is_taken : (own far : ℕ) (table : List ℕ) (cic : ℕ) (event : Found) → (step_in own far table cic event).answer.refusal ≡ 0
+pub is_taken : (own far : ℕ) (table : List ℕ) (cic : ℕ) (event : Option Event) → (step_in own far table cic event).answer.refusal ≡ 0
     → let o = step_found (controls own far cic) (record_at table cic) event in
     step_in own far table cic event
     ≡ cond (not (eqb (state_at table cic) 0) && eqb o.after.state 0)
@@ -197,12 +194,12 @@ pub is_taken : (own far : ℕ) (table : List ℕ) (cic : ℕ) (event : Found) �
 is_taken = group.took
 
 -- and no other record changes, nor the table's length
-pub others_stay : (own far : ℕ) (table : List ℕ) (cic : ℕ) (event : Found) (i : ℕ) → (i ≡ cic → ⊥)
+pub others_stay : (own far : ℕ) (table : List ℕ) (cic : ℕ) (event : Option Event) (i : ℕ) → (i ≡ cic → ⊥)
     → let after = (step_in own far table cic event).table in
     (state_at after i ≡ state_at table i) × (flags_at after i ≡ flags_at table i) × (rank_at after i ≡ rank_at table i)
 others_stay own far table cic event i other = let k = group.others own far table cic event i other in (λ j. (k.held j).state, λ j. (k.held j).flags, k.rank)
 
-pub length_stays : (own far : ℕ) (table : List ℕ) (cic : ℕ) (event : Found) → length (step_in own far table cic event).table ≡ length table
+pub length_stays : (own far : ℕ) (table : List ℕ) (cic : ℕ) (event : Option Event) → length (step_in own far table cic event).table ≡ length table
 length_stays = group.keeps_length
 
 -- THREE WAYS EARLIER VERSIONS ERRED

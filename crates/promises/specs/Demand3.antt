@@ -5,7 +5,8 @@
 -- whether the first and the second control the circuit. First the rules by which they can, then what is promised of them. The same over a link, from
 -- octets to octets, is `Demand3Link`; what a restart heals, and when a host should restart, is `Restarts`.
 -- Assumes nothing.
-use Rattle.std.specs.Prelude.{◌≡◌, refl, Bool, true, false, ◌⊎◌, ℕ, T}
+use Rattle.circuit.specs.declared.Event.{Event}
+use Rattle.std.specs.Prelude.{◌≡◌, refl, Bool, true, false, ◌⊎◌, ℕ, T, Option, Some, None}
 use Rattle.std.proofs.Math.Path.{subst, subst₂}
 use mathlib.Core.List.{List, [], ◌∷◌, ◌++◌}
 use Rattle.circuit.specs.declared.Record.{Record}
@@ -23,8 +24,6 @@ use Rattle.circuit.specs.declared.Event.TheVariants.{Arrives, Ordered, RunsOut}
 use Rattle.circuit.specs.declared.Sends.TheVariants.{Nothing, One, Two}
 use Rattle.circuit.specs.Records.{rec, plain}
 use Rattle.circuit.specs.Groups.{controls}
-use Rattle.codes.specs.declared.Found.{Found}
-use Rattle.codes.specs.declared.Found.TheVariants.{Is, Missing}
 use Rattle.step.specs.Step.{step_found}
 use Rattle.ends.specs.Machine.{When, When.any_time, When.in_silence, When.losing_all, When.never, when_given, Happening.arrives, Happening.host, given, Reached.start, Reached.at_first}
 use Rattle.ends.specs.Ends.{End, end, Pair, Start.both_idle as idle_pair, EndsCome, in_order, does, end_acts, unheard, Agree, Claim, ClaimUnheard}
@@ -50,19 +49,19 @@ two_sent s t = refl
 
 -- When the host can let an event happen: timers 4 to 6 in silence, command 10 (restart) with the loss of all that is on its way, the other commands,
 -- whatever their detail, timers 1 to 3 and numbers that name no event at any time. A signal never comes from the host.
-abbrev when : List Found → List When
+abbrev when : List (Option Event) → List When
 when [] = []
 when (e ∷ l) = when_given e ∷ when l
 
-abbrev order : Command → Found
-order k = Is (Ordered k)
+abbrev order : Command → Option Event
+order k = Some (Ordered k)
 
-abbrev runs_out : Timer → Found
-runs_out t = Is (RunsOut t)
+abbrev runs_out : Timer → Option Event
+runs_out t = Some (RunsOut t)
 
 pub any_times : (t : AddressType) (free : Bool) (charging : Charging) (failure : Failure)
     → when (order Seize ∷ order Release ∷ order (AddressComplete t free) ∷ order (Answer charging) ∷ order ClearBack ∷ order ReAnswer
-    ∷ order (FailCall failure) ∷ order Block ∷ order Unblock ∷ runs_out AddressWait ∷ runs_out AnswerWait ∷ runs_out IncomingHangUp ∷ Missing ∷ [])
+    ∷ order (FailCall failure) ∷ order Block ∷ order Unblock ∷ runs_out AddressWait ∷ runs_out AnswerWait ∷ runs_out IncomingHangUp ∷ None ∷ [])
     ≡ any_time ∷ any_time ∷ any_time ∷ any_time ∷ any_time ∷ any_time
     ∷ any_time ∷ any_time ∷ any_time ∷ any_time ∷ any_time ∷ any_time ∷ any_time ∷ []
 any_times t free charging failure = refl
@@ -73,7 +72,7 @@ silent_times = refl
 pub restart_time : when_given (order Restart) ≡ losing_all
 restart_time = refl
 
-pub signal_times : (s : Signal) → when_given (Is (Arrives s)) ≡ never
+pub signal_times : (s : Signal) → when_given (Some (Arrives s)) ≡ never
 signal_times s = refl
 
 -- the pair is reached
@@ -90,25 +89,25 @@ module _ {a b : Bool} where
   module _ {r t : Record} {w v : List Signal} where
     -- the oldest signal on its way arrives, and what the end sends for it comes last in the other's queue
     pub signal_arrives : {s : Signal} → EndsCome a b (end r (s ∷ w)) (end t v)
-        → EndsCome a b (end (step_found a r (Is (Arrives s))).after w) (end t (v ++ in_order (step_found a r (Is (Arrives s))).sends))
+        → EndsCome a b (end (step_found a r (Some (Arrives s))).after w) (end t (v ++ in_order (step_found a r (Some (Arrives s))).sends))
     unfolding does
     signal_arrives q = at_first q arrives
 
     -- the host gives an event that may come at any time, and nothing is lost
-    pub at_any_time : (e : Found) → when_given e ≡ any_time → EndsCome a b (end r w) (end t v)
+    pub at_any_time : (e : Option Event) → when_given e ≡ any_time → EndsCome a b (end r w) (end t v)
         → EndsCome a b (end (step_found a r e).after w) (end t (v ++ in_order (step_found a r e).sends))
     unfolding does
     at_any_time e k q = subst (λ (h : When). Come a b (given (end_acts a) h e (end r w) (end t v))) k (at_first q (host e))
 
     -- a restart: all that was on its way is lost, in both directions; the end sends its RSC after that
-    pub at_restart : (e : Found) → when_given e ≡ losing_all → EndsCome a b (end r w) (end t v)
+    pub at_restart : (e : Option Event) → when_given e ≡ losing_all → EndsCome a b (end r w) (end t v)
         → EndsCome a b (end (step_found a r e).after []) (end t (in_order (step_found a r e).sends))
     unfolding does
     at_restart e k q = subst₂ (λ (w v : List Signal). EndsCome a b (end (step_found a r e).after w) (end t (v ++ in_order (step_found a r e).sends))) (all_lost w) (all_lost v)
         (subst (λ (h : When). Come a b (given (end_acts a) h e (end r w) (end t v))) k (at_first q (host e)))
 
   -- nothing is on its way, and a timer runs out that waits for that
-  pub at_silence : {r t : Record} → (e : Found) → when_given e ≡ in_silence → EndsCome a b (end r []) (end t [])
+  pub at_silence : {r t : Record} → (e : Option Event) → when_given e ≡ in_silence → EndsCome a b (end r []) (end t [])
       → EndsCome a b (end (step_found a r e).after []) (end t (in_order (step_found a r e).sends))
   unfolding does
   at_silence {r} {t} e k q = subst (λ (h : When). Come a b (given (end_acts a) h e (end r []) (end t []))) k (at_first q (host e))

@@ -3,13 +3,12 @@
 -- which they can, then what is promised of the circuit. The step is `step_in`, the reader `read_into`, the writer `write_from`: the definitions that the
 -- contracts of the archive's entries cite.
 -- Assumes nothing.
-use Rattle.std.specs.Prelude.{◌≡◌, refl, Bool, true, false, cond, not, ◌&&◌, List, [], ◌∷◌, ◌++◌, ℕ, ◌/◌, ◌%◌, ◌<◌, T, eqb, leb, length, take, get_or, replicate}
+use Rattle.std.specs.Prelude.{◌≡◌, refl, Bool, true, false, cond, not, ◌&&◌, List, [], ◌∷◌, ◌++◌, ℕ, ◌/◌, ◌%◌, ◌<◌, T, eqb, leb, length, take, get_or, replicate, Some}
 use Rattle.circuit.specs.declared.Failure.{Failure}
 use Rattle.circuit.specs.declared.Signal.{Signal}
 use Rattle.circuit.specs.declared.Signal.TheVariants.{Iam, Acm, Anc, Ann, Cbk, Clf, Ran, Rlg, Blo, Bla, Ubl, Uba, Rsc, Fail}
 use Rattle.circuit.specs.Groups.{bad_group}
 use Rattle.circuit.proofs.Every.{both}
-use Rattle.codes.specs.declared.Named.TheVariants.{Known}
 use Rattle.codes.specs.Headings.{heading_of}
 use Rattle.codes.specs.Numbers.{event_of}
 use Rattle.words.specs.Octets.{number_of}
@@ -155,7 +154,7 @@ pub sent_and_read : (own far count cic : ℕ) → bad_group own far count ≡ fa
     → (theirs : ℕ) → bad_group far own theirs ≡ false → cic < theirs → (s : Signal)
     → let sent = write_from own far count (saying cic (heading_of s) p) p.buffer in
     let heard = reading far own theirs (take (sent.answer / 256) sent.buffer) in
-    (sent.answer % 256 ≡ 0) × (heard.refusal ≡ 0) × (heard.message.circuit.0 ≡ cic) × (heard.message.signal ≡ Known (chosen p s))
+    (sent.answer % 256 ≡ 0) × (heard.refusal ≡ 0) × (heard.message.circuit.0 ≡ cic) × (heard.message.signal ≡ Some (chosen p s))
 sent_and_read = sent_is_read
 
 -- Demand 3, on every circuit that both exchanges have, whatever happens on the others: whenever none of its messages is on its way and neither exchange is
@@ -180,7 +179,7 @@ link_in5_only_opposite12 own far cic t u w v q nw nv = opposite12 (record_at t c
 -- no message at the head of a queue says on the circuit what never arrives there
 pub never_at_head : (own far cic : ℕ) (t : List ℕ) (m : Message) (w : List Message) (y : Exchange) → ExchangesCome own far cic (exchange t (m ∷ w)) y
     → let read = reading own far (records_in (length t)) m in
-    (s : Signal) → read.refusal ≡ 0 → read.message.circuit.0 ≡ cic → read.message.signal ≡ Known s → Never s (record_at t cic).state → ⊥
+    (s : Signal) → read.refusal ≡ 0 → read.message.circuit.0 ≡ cic → read.message.signal ≡ Some s → Never s (record_at t cic).state → ⊥
 never_at_head own far cic t m w y q s taken on says n = not_both (unheard (record_at t cic).state s) (unheard_then n) (head_heard own far cic t m w y q s taken on says)
   where
     unheard_then : {s : Signal} {p : ℕ} → Never s p → T (unheard p s)

@@ -2,7 +2,7 @@
 -- nonsense before address complete ("Signals that arrive"), T-06, the rules as a constant table ("Forms in the code"), and T-09, short international
 -- numbers ("Messages on the link"). T-05 has a page of its own, `Places`.
 -- Assumes nothing.
-use Rattle.std.specs.Prelude.{◌≡◌, Bool, not, cond, ◌&&◌, ◌||◌, List, [], ◌∷◌, map, ◌↔◌, ◌⊎◌, ℕ, suc, ◌+◌, ◌%◌, ◌<◌, ◌≤◌, ◌^◌, T, eqb, leb, ltb, length}
+use Rattle.std.specs.Prelude.{◌≡◌, Bool, not, cond, ◌&&◌, ◌||◌, List, [], ◌∷◌, map, ◌↔◌, ◌⊎◌, ℕ, suc, ◌+◌, ◌%◌, ◌<◌, ◌≤◌, ◌^◌, T, eqb, leb, ltb, length, Option, Some, None}
 use Rattle.std.proofs.Math.Path.{refl}
 use Rattle.std.proofs.Common.{sym, ap, ◌∙◌, subst, ne_eqb}
 use Rattle.std.proofs.Math.Bool.{true, false}
@@ -20,8 +20,6 @@ use Rattle.circuit.specs.Rows.{first, answered, discarded}
 use Rattle.circuit.specs.Groups.{bad_group, controls}
 use Rattle.circuit.specs.Refusals.{Rule, refuse, first_rule, Given}
 use Rattle.circuit.proofs.Every.{is_true}
-use Rattle.codes.specs.declared.Found.{Found}
-use Rattle.codes.specs.declared.Found.TheVariants.{Is, Missing}
 use Rattle.words.specs.Words.{largest}
 use Rattle.step.specs.Step.{step}
 use Rattle.step.specs.Frees.{freed, frees}
@@ -38,7 +36,6 @@ use Rattle.select.specs.Selection.{qualifies, select_in}
 use Rattle.select.proofs.First.{some_at, none_at}
 use Rattle.select.proofs.Laws as choices
 use Rattle.circuit.proofs.Refusals.{every_number, answer_fits, answered as given_exactly}
-use Rattle.codes.specs.declared.Named.TheVariants.{Known}
 use Rattle.formats.specs.Octets.{besides_st, to_operator, short}
 use Rattle.reader.specs.Reading.{reading}
 use Rattle.ends.specs.Ends.{End, end, EndsCome, unheard, ClaimUnheard}
@@ -56,7 +53,7 @@ idled before after cic = not (eqb (state_at before cic) 0) && eqb (state_at afte
 
 -- an event that takes a record from another state to idle raises the counter by one, and the record takes it; no other event changes the
 -- counter or a rank. Of every table and every event.
-module _ (own far : ℕ) (table : List ℕ) (cic : ℕ) (event : Found) where
+module _ (own far : ℕ) (table : List ℕ) (cic : ℕ) (event : Option Event) where
   abbrev after : List ℕ
   after = (step_in own far table cic event).table
 
@@ -90,7 +87,7 @@ pub ranks_rise : {own far : ℕ} {first last : List ℕ} → ((i : ℕ) → i < 
 ranks_rise low f = (ranks.kept low f).rises
 
 -- a circuit that is freed later has the higher rank: of two events with any others between them, the first frees i and the second j
-pub later_is_higher : (own far : ℕ) (first second : List ℕ) (i j : ℕ) (e f : Found)
+pub later_is_higher : (own far : ℕ) (first second : List ℕ) (i j : ℕ) (e f : Option Event)
     → idled first (step_in own far first i e).table i ≡ true
     → Follows own far (step_in own far first i e).table second
     → idled second (step_in own far second j f).table j ≡ true
@@ -98,21 +95,21 @@ pub later_is_higher : (own far : ℕ) (first second : List ℕ) (i j : ℕ) (e f
 later_is_higher = ranks.later
 
 -- "13, the counter is at its largest value", 2^64 - 1; a group that starts idle answers it at none of its first 2^64 - 1 events
-pub only13_at_largest : (own far : ℕ) (table : List ℕ) (cic : ℕ) (event : Found) → (step_in own far table cic event).answer.refusal ≡ 13 → largest ≤ counter_in table
+pub only13_at_largest : (own far : ℕ) (table : List ℕ) (cic : ℕ) (event : Option Event) → (step_in own far table cic event).answer.refusal ≡ 13 → largest ≤ counter_in table
 only13_at_largest = ranks.spent_at
 
 pub largest_is : largest + 1 ≡ 2 ^ 64
 largest_is = refl
 
 pub no13_at_first : {own far : ℕ} {table : List ℕ} (octets : ℕ) (f : Follows own far (idle octets) table) → events f < largest
-    → (cic : ℕ) (event : Found) → (step_in own far table cic event).answer.refusal ≡ 13 → ⊥
+    → (cic : ℕ) (event : Option Event) → (step_in own far table cic event).answer.refusal ≡ 13 → ⊥
 no13_at_first = ranks.never13
 
 -- the number of events that led to a table
 pub none_counted : {own far : ℕ} {first : List ℕ} → (f : Follows own far first first) → f ≡ Follows.start → events f ≡ 0
 none_counted f e = ap events e
 
-pub one_more_counted : {own far : ℕ} {first last : List ℕ} (f : Follows own far first last) (cic : ℕ) (event : Found) → events (Follows.next f cic event) ≡ events f + 1
+pub one_more_counted : {own far : ℕ} {first last : List ℕ} (f : Follows own far first last) (cic : ℕ) (event : Option Event) → events (Follows.next f cic event) ≡ events f + 1
 one_more_counted f cic event = refl
 
 -- T-02. CHOOSE THE CIRCUIT FOR US
@@ -176,7 +173,7 @@ module _ (own far : ℕ) (table : List ℕ) where
   choice_is_small = choices.small own far table
 
   -- seizing the chosen circuit at once is accepted
-  pub chosen_can_be_seized : (select_in own far table).refusal ≡ 0 → (step_in own far table chosen (Is (Ordered Seize))).answer.refusal ≡ 0
+  pub chosen_can_be_seized : (select_in own far table).refusal ≡ 0 → (step_in own far table chosen (Some (Ordered Seize))).answer.refusal ≡ 0
   chosen_can_be_seized = choices.seizable own far table
 
 -- two ends that choose at once, whatever their tables: while each has a circuit of its own that qualifies, they do not choose the same one
@@ -274,7 +271,7 @@ nonsense_never_comes own far cic apart r s w y q one n = not_both (unheard r.sta
 -- the same of two exchanges over a link, by the rules of `Demand3Link`: what the message at the head of the queue says on the circuit
 pub nonsense_never_comes_in : (own far cic : ℕ) (t : List ℕ) (m : Message) (w : List Message) (y : Exchange) → ExchangesCome own far cic (exchange t (m ∷ w)) y
     → let read = reading own far (records_in (length t)) m in
-    (s : Signal) → read.refusal ≡ 0 → read.message.circuit.0 ≡ cic → read.message.signal ≡ Known s
+    (s : Signal) → read.refusal ≡ 0 → read.message.circuit.0 ≡ cic → read.message.signal ≡ Some s
     → (record_at t cic).state ≡ 1 → Nonsense s → ⊥
 nonsense_never_comes_in own far cic t m w y q s taken on says one n =
     not_both (unheard (record_at t cic).state s) (unheard_there one n) (head_heard own far cic t m w y q s taken on says)
@@ -322,14 +319,14 @@ abbrev other : (refusal : ℕ) → Bool
 other refusal = not (eqb refusal 17)
 
 -- an event says nothing of indicators, and is never refused 17; nor is a choice
-pub events_never17 : (own far : ℕ) (table : List ℕ) (cic : ℕ) (event : Found) → (step_in own far table cic event).answer.refusal ≡ 17 → ⊥
+pub events_never17 : (own far : ℕ) (table : List ℕ) (cic : ℕ) (event : Option Event) → (step_in own far table cic event).answer.refusal ≡ 17 → ⊥
 events_never17 own far table cic event e = answer_fits other (event_rules own far table cic event) (none_is event) 16 (sym (group.refusals own far table cic event) ∙ e)
   where
-    none_is : (event : Found) → T (every_number other (event_rules own far table cic event))
-    none_is Missing = tt
-    none_is (Is (Arrives s)) = tt
-    none_is (Is (Ordered k)) = tt
-    none_is (Is (RunsOut t)) = tt
+    none_is : (event : Option Event) → T (every_number other (event_rules own far table cic event))
+    none_is None = tt
+    none_is (Some (Arrives s)) = tt
+    none_is (Some (Ordered k)) = tt
+    none_is (Some (RunsOut t)) = tt
 
 pub choices_never17 : (own far : ℕ) (table : List ℕ) → (select_in own far table).refusal ≡ 17 → ⊥
 choices_never17 own far table e = answer_fits other (choice_rules own far table) tt 16 (sym (choice_refused own far table) ∙ e)

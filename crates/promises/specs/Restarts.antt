@@ -3,7 +3,8 @@
 -- either end puts that right: demand 3 holds from there on, whatever happens next, and agreement comes.
 -- Ends and what can happen to them are those of `Demand3`, exchanges those of `Demand3Link`.
 -- Assumes nothing.
-use Rattle.std.specs.Prelude.{◌≡◌, Bool, true, cond, ◌||◌, ◌⊎◌, ℕ, ◌<◌, T, eqb, length}
+use Rattle.circuit.specs.declared.Event.{Event}
+use Rattle.std.specs.Prelude.{◌≡◌, Bool, true, cond, ◌||◌, ◌⊎◌, ℕ, ◌<◌, T, eqb, length, Option, Some, None}
 use Rattle.std.proofs.Math.Path.{refl, subst, subst₂}
 use Rattle.std.proofs.Math.Bool.{false}
 use mathlib.Core.List.{List, [], ◌∷◌, ◌++◌}
@@ -21,8 +22,6 @@ use Rattle.circuit.specs.declared.Event.TheVariants.{Arrives, Ordered, RunsOut}
 use Rattle.circuit.specs.Records.{plain, valid}
 use Rattle.circuit.specs.Groups.{bad_group, controls}
 use Rattle.circuit.proofs.Every.{is_true}
-use Rattle.codes.specs.declared.Found.{Found}
-use Rattle.codes.specs.declared.Found.TheVariants.{Is, Missing}
 use Rattle.codes.specs.Numbers.{event_of}
 use Rattle.layout.specs.Layout.{records_in, allowed_at}
 use Rattle.step.specs.Step.{step_found}
@@ -46,12 +45,12 @@ use Rattle.promises.specs.Demand3.{AgreeOn, SameStage, Never}
 -- A restart at the first end, whatever legal record it held and whatever was on its way, which is lost: after it that end is in 12 with no flag, its RSC
 -- is on its way and nothing else is.
 pub restart_gives : (a : Bool) (r t : Record) (w v : List Signal) → T (valid r)
-    → turn (end_acts a) (host (Is (Ordered Restart))) (end r w) (end t v) ≡ (end (plain 12) [], end t (Rsc ∷ []))
+    → turn (end_acts a) (host (Some (Ordered Restart))) (end r w) (end t v) ≡ (end (plain 12) [], end t (Rsc ∷ []))
 restart_gives a r t w v = afterwards a (end r w) (end t v)
 
 -- From any two legal records: after a restart at the first end two ends come to whatever `Demand3` speaks of, as they do from idle.
 pub ends_restarted : {a b : Bool} (r t : Record) (w v : List Signal) → T (valid r) → T (valid t)
-    → let p = turn (end_acts a) (host (Is (Ordered Restart))) (end r w) (end t v) in EndsCome a b p.0 p.1
+    → let p = turn (end_acts a) (host (Some (Ordered Restart))) (end r w) (end t v) in EndsCome a b p.0 p.1
 ends_restarted r t w v good good' = start (first_restarted (end r w) (end t v) good good')
 
 -- The same over the link, on any circuit that both exchanges have, whose two octets are legal in both tables: its messages are lost, in both directions,
@@ -85,14 +84,14 @@ pub who_repeats : (x y : End)
 who_repeats x y = refl
 
 pub first_repeating : (a b : Bool) (r t : Record) → first_repeats (end r [], end t []) ≡ true
-    → repeated a b (end r [], end t []) ≡ (end (step_found a r (Is (RunsOut Repeat))).after [], end t (in_order (step_found a r (Is (RunsOut Repeat))).sends))
+    → repeated a b (end r [], end t []) ≡ (end (step_found a r (Some (RunsOut Repeat))).after [], end t (in_order (step_found a r (Some (RunsOut Repeat))).sends))
 first_repeating = repeats_first
 
 pub second_repeating : (a b : Bool) (r t : Record) → first_repeats (end r [], end t []) ≡ false
-    → repeated a b (end r [], end t []) ≡ (end r (in_order (step_found b t (Is (RunsOut Repeat))).sends), end (step_found b t (Is (RunsOut Repeat))).after [])
+    → repeated a b (end r [], end t []) ≡ (end r (in_order (step_found b t (Some (RunsOut Repeat))).sends), end (step_found b t (Some (RunsOut Repeat))).after [])
 second_repeating = repeats_second
 
-pub restart_is : restart ≡ host (Is (Ordered Restart))
+pub restart_is : restart ≡ host (Some (Ordered Restart))
 restart_is = refl
 
 -- From any two legal records a restart at the first end, then all arrives in whatever order: once nothing is on its way, both ends are idle and each
@@ -136,19 +135,19 @@ module _ {a b : Bool} where
   kept_idle k j = start (calm_and_idle k j)
 
   pub kept_restarted : (r t : Record) (j : Bool) → T (valid r) → T (valid t)
-      → KeptCome a b (watched (step_found a r (Is (Ordered Restart))).after false []) (watched t j (in_order (step_found a r (Is (Ordered Restart))).sends))
+      → KeptCome a b (watched (step_found a r (Some (Ordered Restart))).after false []) (watched t j (in_order (step_found a r (Some (Ordered Restart))).sends))
   unfolding does
   kept_restarted r t j v v' = start (kept_cut_at_first (watched r false []) (watched t j []) v v')
 
   module _ {r t : Record} {k j : Bool} {w v : List Signal} where
     -- a signal arrives: that ends the calm
     pub kept_arrives : {s : Signal} → KeptCome a b (watched r k (s ∷ w)) (watched t j v)
-        → KeptCome a b (watched (step_found a r (Is (Arrives s))).after false w) (watched t j (v ++ in_order (step_found a r (Is (Arrives s))).sends))
+        → KeptCome a b (watched (step_found a r (Some (Arrives s))).after false w) (watched t j (v ++ in_order (step_found a r (Some (Arrives s))).sends))
     unfolding does
     kept_arrives q = at_first q arrives
 
     -- the host gives an event that the rule allows; nothing is lost, and what is sent ends the calm
-    pub kept_given : (e : Found) → T (ready k (leave r e)) → KeptCome a b (watched r k w) (watched t j v)
+    pub kept_given : (e : Option Event) → T (ready k (leave r e)) → KeptCome a b (watched r k w) (watched t j v)
         → let o = step_found a r e in
         KeptCome a b (watched o.after (still (in_order o.sends) k) w) (watched t j (v ++ in_order o.sends))
     unfolding does
@@ -157,10 +156,10 @@ module _ {a b : Bool} where
 
     -- a restart by which everything is lost that is on its way may come at any time
     pub kept_cut : KeptCome a b (watched r k w) (watched t j v)
-        → let o = step_found a r (Is (Ordered Restart)) in
+        → let o = step_found a r (Some (Ordered Restart)) in
         KeptCome a b (watched o.after false []) (watched t j (in_order o.sends))
     unfolding does
-    kept_cut q = subst₂ (λ (w v : List Signal). KeptCome a b (watched (step_found a r (Is (Ordered Restart))).after false w) (watched t j (v ++ in_order (step_found a r (Is (Ordered Restart))).sends)))
+    kept_cut q = subst₂ (λ (w v : List Signal). KeptCome a b (watched (step_found a r (Some (Ordered Restart))).after false w) (watched t j (v ++ in_order (step_found a r (Some (Ordered Restart))).sends)))
         (all_lost w) (all_lost v) (at_first q (host cut))
 
   -- nothing is on its way, and the end is calm from now on
@@ -172,23 +171,23 @@ module _ {a b : Bool} where
   either_kept_first = mirror_kept
 
 -- the leave that events have, as in `Demand3` their times
-abbrev leaves : Record → List Found → List Leave
+abbrev leaves : Record → List (Option Event) → List Leave
 leaves r [] = []
 leaves r (e ∷ l) = leave r e ∷ leaves r l
 
-abbrev order : Command → Found
-order k = Is (Ordered k)
+abbrev order : Command → Option Event
+order k = Some (Ordered k)
 
-abbrev runs_out : Timer → Found
-runs_out t = Is (RunsOut t)
+abbrev runs_out : Timer → Option Event
+runs_out t = Some (RunsOut t)
 
 -- What the rule allows: to an end that is calm whatever the host may give at all; else all but command 10, and but timers 4 and 5 in states 5 and 12.
 pub calm_needed : (r : Record) → (r.state ≡ 5) ⊎ (r.state ≡ 12)
-    → (leave r (Is (Ordered Restart)) ≡ once_calm) × (leave r (Is (RunsOut Repeat)) ≡ once_calm) × (leave r (Is (RunsOut OneMinute)) ≡ once_calm)
+    → (leave r (Some (Ordered Restart)) ≡ once_calm) × (leave r (Some (RunsOut Repeat)) ≡ once_calm) × (leave r (Some (RunsOut OneMinute)) ≡ once_calm)
 calm_needed r s = (refl, waiting r s, waiting r s)
 
 pub calm_not_needed_elsewhere : (r : Record) → (r.state ≡ 5 → ⊥) → (r.state ≡ 12 → ⊥)
-    → (leave r (Is (RunsOut Repeat)) ≡ at_once) × (leave r (Is (RunsOut OneMinute)) ≡ at_once)
+    → (leave r (Some (RunsOut Repeat)) ≡ at_once) × (leave r (Some (RunsOut OneMinute)) ≡ at_once)
 calm_not_needed_elsewhere r h k = (not_waiting r h k, not_waiting r h k)
 
 pub sending_ends_calm : (s : Signal) (rest : List Signal) (k : Bool) → (still (s ∷ rest) k ≡ false) × (still {M = Signal} [] k ≡ k)
@@ -199,7 +198,7 @@ calm_allows = (refl, refl, λ k. refl)
 
 pub calm_not_needed : (r : Record) (t : AddressType) (free : Bool) (charging : Charging) (failure : Failure)
     → leaves r (order Seize ∷ order Release ∷ order (AddressComplete t free) ∷ order (Answer charging) ∷ order ClearBack ∷ order ReAnswer
-    ∷ order (FailCall failure) ∷ order Block ∷ order Unblock ∷ runs_out AddressWait ∷ runs_out AnswerWait ∷ runs_out IncomingHangUp ∷ runs_out BlockRepeat ∷ Missing ∷ [])
+    ∷ order (FailCall failure) ∷ order Block ∷ order Unblock ∷ runs_out AddressWait ∷ runs_out AnswerWait ∷ runs_out IncomingHangUp ∷ runs_out BlockRepeat ∷ None ∷ [])
     ≡ at_once ∷ at_once ∷ at_once ∷ at_once ∷ at_once ∷ at_once ∷ at_once ∷ at_once ∷ at_once ∷ at_once ∷ at_once ∷ at_once ∷ at_once ∷ at_once ∷ []
 calm_not_needed r t free charging failure = refl
 
@@ -240,12 +239,12 @@ kept_never_next own far cic different r k s w y q n =
 -- From any two legal records with nothing on its way: the second end's host gives whatever events it likes, as far as the rule allows them, and what
 -- that end sends is on its way; then the first end, which has been still, restarts, and nothing is lost. Two ends can come to that too: so a restart
 -- at a calm end heals whatever was lost before, as one does by which everything is lost.
-pub restarted_while_other_sends : {a b : Bool} (r t : Record) → T (valid r) → T (valid t) → (events : List Found)
+pub restarted_while_other_sends : {a b : Bool} (r t : Record) → T (valid r) → T (valid t) → (events : List (Option Event))
     → KeptPairCome a b (after (kept_acts a) (kept_acts b) (watched r true [], watched t true []) (by_other events))
 restarted_while_other_sends {a} {b} r t v v' events = restarted_amid a b r v t v' events
 
-pub by_other_is : (e : Found) (events : List Found)
-    → (by_other [] ≡ first (host (event (Is (Ordered Restart)))) ∷ []) × (by_other (e ∷ events) ≡ second (host (event e)) ∷ by_other events)
+pub by_other_is : (e : Option Event) (events : List (Option Event))
+    → (by_other [] ≡ first (host (event (Some (Ordered Restart)))) ∷ []) × (by_other (e ∷ events) ≡ second (host (event e)) ∷ by_other events)
 by_other_is e events = (refl, refl)
 
 -- Runs by this rule, from two idle ends that are calm. A call is seized; its end notes that nothing is on its way; an ACM is sent to it; being calm, it

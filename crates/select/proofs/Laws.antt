@@ -1,5 +1,6 @@
 -- What holds of every choice, in the words of docs/RULES.md ("Choice of a circuit") and of Q.724, 2.4, method 2.
 -- Assumes nothing.
+use Rattle.std.specs.Prelude.{Some}
 use mathlib.Core.Path.{◌≡◌, refl, ◌∙◌, subst}
 use mathlib.Core.Bool.{Bool, true, false, not, cond}
 use mathlib.Core.List.{List}
@@ -14,7 +15,6 @@ use Rattle.circuit.specs.Refusals.{first_rule}
 use Rattle.circuit.specs.Groups.{bad_group, controls}
 use Rattle.circuit.proofs.Groups.{one_controls, at_most4096}
 use Rattle.circuit.proofs.Every.{left, right, both, is_true}
-use Rattle.codes.specs.declared.Found.TheVariants.{Is}
 use Rattle.layout.specs.Layout.{records_in, state_at, rank_at, record_of, record_at, allowed_at}
 use Rattle.group.specs.Table.{step_in}
 use Rattle.group.specs.Refusals.{refusal_in}
@@ -200,9 +200,9 @@ module _ (own far : ℕ) (table : List ℕ) where
       whole false e = omega arith
 
   -- seizing the chosen circuit at once is accepted
-  pub seizable : s.refusal ≡ 0 → (step_in own far table s.cic.0 (Is (Ordered Seize))).answer.refusal ≡ 0
+  pub seizable : s.refusal ≡ 0 → (step_in own far table s.cic.0 (Some (Ordered Seize))).answer.refusal ≡ 0
   unfolding record_of
-  seizable r = Group.refusals own far table s.cic.0 (Is (Ordered Seize)) ∙ go s.cic.0 (chosen_qualifies r).0 (chosen_qualifies r).1 (taken₀ r)
+  seizable r = Group.refusals own far table s.cic.0 (Some (Ordered Seize)) ∙ go s.cic.0 (chosen_qualifies r).0 (chosen_qualifies r).1 (taken₀ r)
     where
       -- a group that is not refused, with no bad record
       taken₀ : s.refusal ≡ 0 → (bad_group own far n ≡ false) × (some n (bad table) ≡ false)
@@ -210,7 +210,7 @@ module _ (own far : ℕ) (table : List ℕ) where
           by_cases (λ s. s.refusal ≡ 0 → (bad_group own far n ≡ false) × (some n (bad table) ≡ false))
           (λ g r. absurd (omega arith)) (λ g a r. absurd (omega arith)) (λ g a o r. (g, a)) (λ g a o t r. (g, a)) (λ g a o t r. absurd (omega arith))
 
-      go : (i : ℕ) → i < n → T (qualifies table i) → (bad_group own far n ≡ false) × (some n (bad table) ≡ false) → refusal_in own far table i (Is (Ordered Seize)) ≡ 0
+      go : (i : ℕ) → i < n → T (qualifies table i) → (bad_group own far n ≡ false) × (some n (bad table) ≡ false) → refusal_in own far table i (Some (Ordered Seize)) ≡ 0
       go i h q w =
           let ok : allowed_at table i ≡ true = allowed_is (allowed_at table i) (λ b. none_at n (bad table) w.1 i h b) in
           let idle : eqb (state_at table i) 0 ≡ true = is_true _ (left (eqb (state_at table i) 0) (not (record_at table i).far) q) in

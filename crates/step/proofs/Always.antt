@@ -1,6 +1,7 @@
 -- What holds of every event on every valid record: one test, computed over the 13 states, both roles and all flags for each event, and the laws
 -- from it.
 -- Assumes nothing.
+use Rattle.std.specs.Prelude.{Option, Some, None}
 use mathlib.Core.Path.{◌≡◌, refl, sym, subst}
 use mathlib.Core.Bool.{Bool, true, false, not, cond, ◌&&◌}
 use Prim.Native.Nat.{ℕ}
@@ -16,8 +17,6 @@ use Rattle.circuit.specs.Records.{valid}
 use Rattle.circuit.specs.Rows.{first, refused}
 use Rattle.circuit.specs.Every.{implies}
 use Rattle.circuit.proofs.Every.{then, left, right, both, alike, alike_same, everywhere, at_valid}
-use Rattle.codes.specs.declared.Found.{Found}
-use Rattle.codes.specs.declared.Found.TheVariants.{Is, Missing}
 use Rattle.step.specs.Step.{step, step_found, is_signal, sent}
 use Rattle.step.specs.Frees.{freed, frees, frees_found}
 use Rattle.step.specs.Refusals.{refusal, refusal_found}
@@ -97,7 +96,7 @@ pub frees_listed : (c : Bool) (r : Record) (e : Event) → T (valid r) → freed
 frees_listed c r e v = alike_same _ _ (left (frees_right c r e) _ (right (refuses_right c r e) _ (right (stays_valid c r e) _ (holds e c r v))))
 
 -- numbers that are no event are refused with 3, and on a record that is not valid with 12
-pub refuses_missing : (c : Bool) (r : Record) → (step_found c r Missing).refusal ≡ refusal_found r Missing
+pub refuses_missing : (c : Bool) (r : Record) → (step_found c r None).refusal ≡ refusal_found r None
 unfolding step_found
 refuses_missing c r = go (valid r)
   where
@@ -111,10 +110,10 @@ staying true = refl
 staying false = refl
 
 -- the same of an event that may be none
-pub frees_listed_found : (c : Bool) (r : Record) (f : Found) → T (valid r) → freed r.state (step_found c r f) ≡ frees_found c r.state f
+pub frees_listed_found : (c : Bool) (r : Record) (f : Option Event) → T (valid r) → freed r.state (step_found c r f) ≡ frees_found c r.state f
 unfolding step_found
-frees_listed_found c r (Is e) v = frees_listed c r e v
-frees_listed_found c r Missing v = go (valid r)
+frees_listed_found c r (Some e) v = frees_listed c r e v
+frees_listed_found c r None v = go (valid r)
   where
     go : (b : Bool) → freed r.state (cond b (refused 3 r) (refused 12 r)) ≡ false
     go true = staying (eqb r.state 0)

@@ -1,5 +1,6 @@
 -- Calls and marks together are the printed tables, for every legal record, role and event: one test that is computed, and the law from it.
 -- Assumes nothing.
+use Rattle.std.specs.Prelude.{Option, Some, None}
 use mathlib.Core.Path.{◌≡◌, refl, sym, ap, ◌∙◌, subst}
 use mathlib.Core.Bool.{Bool, true, false, ◌&&◌}
 use Prim.Native.Nat.{ℕ, ◌<◌, ◌≤◌}
@@ -16,8 +17,6 @@ use Rattle.circuit.specs.Records.{valid}
 use Rattle.circuit.specs.Rows.{first}
 use Rattle.circuit.specs.Every.{implies, each_below}
 use Rattle.circuit.proofs.Every.{left, right, then, is_true, each_bool, at_bool, at_below}
-use Rattle.codes.specs.declared.Found.{Found}
-use Rattle.codes.specs.declared.Found.TheVariants.{Is, Missing}
 use Rattle.answers.specs.Answers as Answers
 use Rattle.answers.specs.Answers.{packed, Unpacked, refusal}
 use Rattle.answers.proofs.Unpacking.{unpacked}
@@ -120,26 +119,26 @@ pub refusal_back : (n s f : ℕ) → n < 256 → s < 256 → f < 256 → Unpacke
 refusal_back n s f hn hs hf = unpacked (refusal n s f) hn (omega arith) hs hf
 
 module _ (c : Bool) (s f : ℕ) (t : T (allowed s f)) where
-  shown_missing : shown (step_found c (record_of s f) Missing) ≡ refusal 3 s f
+  shown_missing : shown (step_found c (record_of s f) None) ≡ refusal 3 s f
   unfolding step_found record_of
   shown_missing = rw (is_true (valid (record_of s f)) (is_valid s f t)) (ap (λ (k : ℕ). refusal 3 s k) (flags_back s f (low_flags s f t)))
 
-  pub answers : (event : Found) → answer_to c s f event ≡ shown (step_found c (record_of s f) event)
+  pub answers : (event : Option Event) → answer_to c s f event ≡ shown (step_found c (record_of s f) event)
   unfolding answer_to
   answers event = rw (is_true (allowed s f) t) refl
 
-  pub packs : (event : Found) → found_way c s f event ≡ packed (answer_to c s f event)
+  pub packs : (event : Option Event) → found_way c s f event ≡ packed (answer_to c s f event)
   unfolding step_found
-  packs (Is e) = are_the_tables c s f e t ∙ ap packed (sym (answers (Is e)))
-  packs Missing = ap packed (sym (answers Missing ∙ shown_missing))
+  packs (Some e) = are_the_tables c s f e t ∙ ap packed (sym (answers (Some e)))
+  packs None = ap packed (sym (answers None ∙ shown_missing))
 
-  pub unpacks : s < 256 → f < 256 → (event : Found) → Unpacked (packed (answer_to c s f event)) (answer_to c s f event)
+  pub unpacks : s < 256 → f < 256 → (event : Option Event) → Unpacked (packed (answer_to c s f event)) (answer_to c s f event)
   unfolding step_found
-  unpacks hs hf (Is e) = subst (λ (a : Answers.Answer). Unpacked (packed a) a) (sym (answers (Is e))) (comes_back _ (small_shown c s f e t))
-  unpacks hs hf Missing = subst (λ (a : Answers.Answer). Unpacked (packed a) a) (sym (answers Missing ∙ shown_missing)) (refusal_back 3 s f (omega arith) hs hf)
+  unpacks hs hf (Some e) = subst (λ (a : Answers.Answer). Unpacked (packed a) a) (sym (answers (Some e))) (comes_back _ (small_shown c s f e t))
+  unpacks hs hf None = subst (λ (a : Answers.Answer). Unpacked (packed a) a) (sym (answers None ∙ shown_missing)) (refusal_back 3 s f (omega arith) hs hf)
 
 -- two octets that are no record
-pub bad : (c : Bool) (s f : ℕ) (event : Found) → allowed s f ≡ false → answer_to c s f event ≡ refusal 12 s f
+pub bad : (c : Bool) (s f : ℕ) (event : Option Event) → allowed s f ≡ false → answer_to c s f event ≡ refusal 12 s f
 unfolding answer_to
 bad c s f event e = rw e refl
 
@@ -147,10 +146,10 @@ bad c s f event e = rw e refl
 pub met : {r w : ℕ} {a : Answers.Answer} → r ≡ w → w ≡ packed a → Unpacked (packed a) a → (r ≡ packed a) × Unpacked r a
 met {a = a} e p u = (e ∙ p, subst (λ (n : ℕ). Unpacked n a) (sym (e ∙ p)) u)
 
-pub refuses_bad : (r : ℕ) (c : Bool) (s f : ℕ) (event : Found) → allowed s f ≡ false → s < 256 → f < 256 → r ≡ Answers.word 12 0 s f 0 0
+pub refuses_bad : (r : ℕ) (c : Bool) (s f : ℕ) (event : Option Event) → allowed s f ≡ false → s < 256 → f < 256 → r ≡ Answers.word 12 0 s f 0 0
     → (r ≡ packed (answer_to c s f event)) × Unpacked r (answer_to c s f event)
 refuses_bad r c s f event e hs hf is = met is (ap packed (sym (bad c s f event e))) (subst (λ (a : Answers.Answer). Unpacked (packed a) a) (sym (bad c s f event e)) (refusal_back 12 s f (omega arith) hs hf))
 
-pub answers_good : (r : ℕ) (c : Bool) (s f : ℕ) (event : Found) → allowed s f ≡ true → s < 256 → f < 256 → r ≡ found_way c s f event
+pub answers_good : (r : ℕ) (c : Bool) (s f : ℕ) (event : Option Event) → allowed s f ≡ true → s < 256 → f < 256 → r ≡ found_way c s f event
     → (r ≡ packed (answer_to c s f event)) × Unpacked r (answer_to c s f event)
 answers_good r c s f event e hs hf is = let t = subst T (sym e) tt in met is (packs c s f t event) (unpacks c s f t hs hf event)

@@ -1,13 +1,11 @@
 -- Which events free a circuit (docs/RULES.md, "Release ranks"): those that take a record from another state to idle. `Always` shows that the list is
 -- exact.
 -- Assumes nothing.
-use Rattle.std.specs.Prelude.{Bool, false, not, ◌&&◌, ◌||◌, ℕ, eqb}
+use Rattle.std.specs.Prelude.{Bool, false, not, ◌&&◌, ◌||◌, ℕ, eqb, Option, Some, None}
 use Rattle.circuit.specs.declared.Signal.TheVariants.{Iam, Acm, Anc, Ann, Cbk, Clf, Ran, Rlg, Blo, Bla, Ubl, Uba, Rsc, Fail}
 use Rattle.circuit.specs.declared.Event.{Event}
 use Rattle.circuit.specs.declared.Event.TheVariants.{Arrives, Ordered, RunsOut}
 use Rattle.circuit.specs.declared.Outcome.{Outcome}
-use Rattle.codes.specs.declared.Found.{Found}
-use Rattle.codes.specs.declared.Found.TheVariants.{Is, Missing}
 use Rattle.step.specs.Refusals.{within}
 
 -- from another state to idle
@@ -34,6 +32,6 @@ frees c s (Ordered k) = false
 frees c s (RunsOut t) = false
 
 -- an event by its numbers, which may be none
-abbrev pub frees_found : (c : Bool) → (state : ℕ) → Found → Bool
-frees_found c s (Is e) = frees c s e
-frees_found c s Missing = false
+abbrev pub frees_found : (c : Bool) → (state : ℕ) → Option Event → Bool
+frees_found c s (Some e) = frees c s e
+frees_found c s None = false

@@ -1,6 +1,6 @@
 -- When each refusal is given (docs/RULES.md, "Refusals"), apart from the tables: 12 first, 3 for an event that is none, then 5, 4 or 6.
 -- Assumes nothing.
-use Rattle.std.specs.Prelude.{Bool, true, false, not, ◌&&◌, ◌||◌, List, [], ◌∷◌, ℕ, eqb, leb}
+use Rattle.std.specs.Prelude.{Bool, true, false, not, ◌&&◌, ◌||◌, List, [], ◌∷◌, ℕ, eqb, leb, Option, Some, None}
 use Rattle.circuit.specs.declared.Record.{Record}
 use Rattle.circuit.specs.declared.Command.{Command}
 use Rattle.circuit.specs.declared.Command.TheVariants.{Seize, Release, AddressComplete, Answer, ClearBack, ReAnswer, FailCall, Block, Unblock, Restart}
@@ -10,8 +10,6 @@ use Rattle.circuit.specs.declared.Event.{Event}
 use Rattle.circuit.specs.declared.Event.TheVariants.{Arrives, Ordered, RunsOut}
 use Rattle.circuit.specs.Records.{valid}
 use Rattle.circuit.specs.Refusals.{Rule, refuse, first_rule}
-use Rattle.codes.specs.declared.Found.{Found}
-use Rattle.codes.specs.declared.Found.TheVariants.{Is, Missing}
 use Rattle.codes.specs.Numbers.{refusal_of}
 use Rattle.commands.specs.Tables.{late}
 
@@ -60,17 +58,17 @@ event_rules r (Ordered k) = refuse 4 (seizes_blocked r k) ∷ refuse 5 (not (all
 event_rules r (RunsOut t) = refuse 6 (not (runs r t)) ∷ []
 
 -- of an event that may be none: 3 for that
-abbrev pub found_rules : Record → Found → List Rule
-found_rules r (Is e) = event_rules r e
-found_rules r Missing = refuse (refusal_of Missing) true ∷ []
+abbrev pub found_rules : Record → Option Event → List Rule
+found_rules r (Some e) = event_rules r e
+found_rules r None = refuse (refusal_of None) true ∷ []
 
 -- on any record: 12 first
-abbrev pub step_rules : Record → Found → List Rule
+abbrev pub step_rules : Record → Option Event → List Rule
 step_rules r f = refuse 12 (not (valid r)) ∷ found_rules r f
 
 -- the refusal that is given, 0: it is accepted
 abbrev pub refusal : Record → Event → ℕ
 refusal r e = first_rule (event_rules r e)
 
-abbrev pub refusal_found : Record → Found → ℕ
+abbrev pub refusal_found : Record → Option Event → ℕ
 refusal_found r f = first_rule (step_rules r f)

@@ -1,14 +1,12 @@
 -- One event on one circuit's record (docs/RULES.md): what it answers, with its refusals in the order 12, 3, then 5, 4 or 6.
 -- Assumes nothing.
-use Rattle.std.specs.Prelude.{Bool, cond, true, false, ℕ}
+use Rattle.std.specs.Prelude.{Bool, cond, true, false, ℕ, Option, Some, None}
 use Rattle.circuit.specs.declared.Record.{Record}
 use Rattle.circuit.specs.declared.Event.{Event}
 use Rattle.circuit.specs.declared.Event.TheVariants.{Arrives, Ordered, RunsOut}
 use Rattle.circuit.specs.declared.Outcome.{Outcome}
 use Rattle.circuit.specs.Records.{valid}
 use Rattle.circuit.specs.Rows.{refused}
-use Rattle.codes.specs.declared.Found.{Found}
-use Rattle.codes.specs.declared.Found.TheVariants.{Is, Missing}
 use Rattle.codes.specs.Numbers.{refusal_of}
 use Rattle.signals.specs.Table.{on_signal}
 use Rattle.commands.specs.Tables.{on_command, on_timer}
@@ -26,9 +24,9 @@ unfoldable pub step : (c : Bool) → Record → Event → Outcome
 step c r e = cond (valid r) (by_tables c r e) (refused 12 r)
 
 -- an event by its numbers, which may be none: 12 still comes before the 3 of that
-unfoldable pub step_found : (c : Bool) → Record → Found → Outcome
-step_found c r (Is e) = step c r e
-step_found c r Missing = cond (valid r) (refused (refusal_of Missing) r) (refused 12 r)
+unfoldable pub step_found : (c : Bool) → Record → Option Event → Outcome
+step_found c r (Some e) = step c r e
+step_found c r None = cond (valid r) (refused (refusal_of None) r) (refused 12 r)
 
 abbrev pub is_signal : Event → Bool
 is_signal (Arrives s) = true

@@ -2,13 +2,11 @@
 -- what the step of such a record answers. The contracts of this crate cite it; no promise leans on it, since `Tables` in proofs/ shows that it comes
 -- to the printed tables, and the contract of `group::step` speaks of those.
 -- Assumes nothing.
-use Rattle.std.specs.Prelude.{Bool, true, false, cond, ◌&&◌, ℕ, eqb}
+use Rattle.std.specs.Prelude.{Bool, true, false, cond, ◌&&◌, ℕ, eqb, Option, Some, None}
 use Rattle.circuit.specs.declared.Signal.{Signal}
 use Rattle.circuit.specs.declared.Signal.TheVariants.{Iam, Acm, Anc, Ann, Cbk, Clf, Ran, Rlg, Blo, Bla, Ubl, Uba, Rsc, Fail}
 use Rattle.circuit.specs.declared.Event.{Event}
 use Rattle.circuit.specs.declared.Event.TheVariants.{Arrives, Ordered, RunsOut}
-use Rattle.codes.specs.declared.Found.{Found}
-use Rattle.codes.specs.declared.Found.TheVariants.{Is, Missing}
 use Rattle.circuit.specs.declared.Outcome.{Outcome}
 use Rattle.answers.specs.Answers.{Answer, refusal, word}
 use Rattle.layout.specs.Layout.{flags_of, record_of, allowed}
@@ -58,14 +56,14 @@ event_way c s f (Arrives sig) = signal_way c s f sig
 event_way c s f (Ordered k) = command_way s f k
 event_way c s f (RunsOut t) = timer_way s f t
 
-abbrev pub found_way : (c : Bool) → (state flags : ℕ) → Found → ℕ
-found_way c s f (Is e) = event_way c s f e
-found_way c s f Missing = refused 3 s f
+abbrev pub found_way : (c : Bool) → (state flags : ℕ) → Option Event → ℕ
+found_way c s f (Some e) = event_way c s f e
+found_way c s f None = refused 3 s f
 
 -- an outcome by its numbers
 abbrev pub shown : Outcome → Answer
 shown o = record { refusal = o.refusal; state = o.after.state; flags = flags_of o.after; sends = o.sends; ind = o.ind }
 
 -- 12: two octets that are no record are shown as they stand
-unfoldable pub answer_to : (c : Bool) → (state flags : ℕ) → Found → Answer
+unfoldable pub answer_to : (c : Bool) → (state flags : ℕ) → Option Event → Answer
 answer_to c s f event = cond (allowed s f) (shown (step_found c (record_of s f) event)) (refusal 12 s f)
