@@ -4,74 +4,75 @@
 ghost use Rattle.std.specs.Prelude.{◌≡◌, ◌/◌, ◌%◌};
 ghost use Rattle.answers.specs.Answers.{word};
 
-// An answer by its fields; a heading of 0 stands for no signal.
-pub fn answer(refusal: u8, ind: u8, state: u8, flags: u8, first: u8, second: u8) -> u64
-    ensures { result ≡ word refusal ind state flags first second }
+use circuit::Held;
+
+// The fields of an answer; a heading of 0 stands for no signal.
+#[derive(Clone, Copy, Debug, PartialEq, Eq)]
+pub struct Fields {
+    pub refusal: u8,
+    pub ind: u8,
+    pub held: Held,
+    pub first: u8,
+    pub second: u8,
+}
+
+// An answer by its fields.
+pub fn answer(refusal: u8, ind: u8, held: Held, first: u8, second: u8) -> u64
+    ensures { result ≡ word refusal ind held.state held.flags first second }
 {
-    words::number(refusal, ind, state, flags, first, second, 0, 0)
+    let Held { state, flags } = held;
+    u64::from_le_bytes([refusal, ind, state, flags, first, second, 0, 0])
 }
 
 // A refusal sends nothing, gives indication 0 and shows the record as it stands.
-pub fn refused(n: u8, state: u8, flags: u8) -> u64
-    ensures { result ≡ word n 0 state flags 0 0 }
+pub fn refused(n: u8, held: Held) -> u64
+    ensures { result ≡ word n 0 held.state held.flags 0 0 }
 {
     answer(
         n,
         names::IND_NOTHING,
-        state,
-        flags,
+        held,
         names::NO_SIGNAL,
         names::NO_SIGNAL,
     )
 }
 
 // An event that is taken and sends one signal, or none.
-pub fn sent(heading: u8, state: u8, flags: u8, ind: u8) -> u64
-    ensures { result ≡ word 0 ind state flags heading 0 }
+pub fn sent(heading: u8, held: Held, ind: u8) -> u64
+    ensures { result ≡ word 0 ind held.state held.flags heading 0 }
 {
-    answer(
-        names::ACCEPTED,
-        ind,
-        state,
-        flags,
-        heading,
-        names::NO_SIGNAL,
-    )
+    answer(names::ACCEPTED, ind, held, heading, names::NO_SIGNAL)
 }
 
-// The fields of an answer.
+// The fields that an answer was made of.
+pub fn fields_of(answer: u64) -> Fields
+    ensures refusal { result.refusal ≡ answer % 256 }
+    ensures ind { result.ind ≡ answer / 0x100 % 256 }
+    ensures state { result.held.state ≡ answer / 0x10000 % 256 }
+    ensures flags { result.held.flags ≡ answer / 0x1000000 % 256 }
+    ensures first { result.first ≡ answer / 0x100000000 % 256 }
+    ensures second { result.second ≡ answer / 0x10000000000 % 256 }
+{
+    let [refusal, ind, state, flags, first, second, _, _] = answer.to_le_bytes();
+    Fields {
+        refusal,
+        ind,
+        held: Held { state, flags },
+        first,
+        second,
+    }
+}
+
 pub fn refusal_of(answer: u64) -> u8
     ensures { result ≡ answer % 256 }
 {
-    (answer % 256) as u8
+    fields_of(answer).refusal
 }
 
-pub fn ind_of(answer: u64) -> u8
-    ensures { result ≡ answer / 0x100 % 256 }
+// What is held of the circuit after the event.
+pub fn held_of(answer: u64) -> Held
+    ensures state { result.state ≡ answer / 0x10000 % 256 }
+    ensures flags { result.flags ≡ answer / 0x1000000 % 256 }
 {
-    (answer / 0x100 % 256) as u8
-}
-
-pub fn state_of(answer: u64) -> u8
-    ensures { result ≡ answer / 0x10000 % 256 }
-{
-    (answer / 0x10000 % 256) as u8
-}
-
-pub fn flags_of(answer: u64) -> u8
-    ensures { result ≡ answer / 0x1000000 % 256 }
-{
-    (answer / 0x1000000 % 256) as u8
-}
-
-pub fn first_of(answer: u64) -> u8
-    ensures { result ≡ answer / 0x100000000 % 256 }
-{
-    (answer / 0x100000000 % 256) as u8
-}
-
-pub fn second_of(answer: u64) -> u8
-    ensures { result ≡ answer / 0x10000000000 % 256 }
-{
-    (answer / 0x10000000000 % 256) as u8
+    fields_of(answer).held
 }
