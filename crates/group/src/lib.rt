@@ -10,105 +10,94 @@ ghost use Rattle.group.specs.Table.{step_in};
 ghost use Rattle.group.specs.Way.{on_circuit};
 ghost use Rattle.group.specs.Landing.{put_shown, freeing, accepted, landed};
 
-use circuit::{Cic, PointCode};
+use circuit::{Cic, Codes, Held};
+use codes::Numbers;
+use names::Refusal;
 
-// The record that an answer shows is put at the circuit.
-fn store(table: &mut [u8], cic: Cic, answer: u64) -> u64
-    ensures answers { result ≡ answer }
-    ensures leaves { table.new ≡ put_shown table.old cic.0 answer }
-{
-    layout::put(
-        table,
-        cic,
-        answers::state_of(answer),
-        answers::flags_of(answer),
-    );
-    answer
-}
+// What is shown where there is no circuit.
+const NOTHING: Held = Held { state: 0, flags: 0 };
 
-// An event that frees the circuit: the counter goes up by one and the record takes it.
-fn free(table: &mut [u8], cic: Cic, state: u8, flags: u8, answer: u64) -> u64
-    ensures answers { result ≡ (freeing table.old cic.0 state flags answer).answer }
-    ensures leaves { table.new ≡ (freeing table.old cic.0 state flags answer).table }
-{
-    let count = layout::counter_in(table);
-    if words::LARGEST <= count {
-        return answers::refused(names::COUNTER_FULL, state, flags);
-    }
-    let taken = store(table, cic, answer);
-    layout::put_counter(table, count + 1);
-    layout::put_rank(table, cic, count + 1);
-    taken
-}
-
-// An event that the circuit's step does not refuse, on a record in this state: one that takes it from another state to idle frees the circuit.
-fn accept(table: &mut [u8], cic: Cic, state: u8, flags: u8, answer: u64) -> u64
-    ensures answers { result ≡ (accepted table.old cic.0 state flags answer).answer }
-    ensures leaves { table.new ≡ (accepted table.old cic.0 state flags answer).table }
-{
-    if state == names::IDLE {
-        return store(table, cic, answer);
-    }
-    if answers::state_of(answer) == names::IDLE {
-        return free(table, cic, state, flags, answer);
-    }
-    store(table, cic, answer)
-}
-
-// What one circuit's step answers is put into the table.
-fn land(table: &mut [u8], cic: Cic, state: u8, flags: u8, answer: u64) -> u64
-    ensures answers { result ≡ (landed table.old cic.0 state flags answer).answer }
-    ensures leaves { table.new ≡ (landed table.old cic.0 state flags answer).table }
-{
-    if answers::refusal_of(answer) == names::ACCEPTED {
-        accept(table, cic, state, flags, answer)
-    } else {
-        answer
-    }
-}
-
-// A circuit of the group, which our end controls (con) or not: its state and flags are read once, and written once.
-fn on_circuit(con: bool, table: &mut [u8], cic: Cic, kind: u32, code: u32, detail: u32) -> u64
-    requires { cic.0 < records_in (length table.old) }
-    ensures packs { result ≡ packed (on_circuit con table.old cic.0 (event_of kind code detail)).answer }
-    ensures unpacks { Unpacked result (on_circuit con table.old cic.0 (event_of kind code detail)).answer }
-    ensures leaves { table.new ≡ (on_circuit con table.old cic.0 (event_of kind code detail)).table }
-{
-    let at = layout::stored_at(table, cic);
-    let answer = step::step(con, at.state, at.flags, kind, code, detail);
-    land(table, cic, at.state, at.flags, answer)
-}
-
-// An event, by its kind, code and detail, on a circuit of the group with these codes and this table. It takes the same time whatever the table's
-// length.
-pub fn step(
-    own: PointCode,
-    far: PointCode,
-    table: &mut [u8],
+// What one circuit's step answered, with the circuit and what was held of it.
+#[derive(Clone, Copy)]
+struct Landing {
     cic: Cic,
-    kind: u32,
-    code: u32,
-    detail: u32,
-) -> u64
-    ensures packs { result ≡ packed (step_in own.0 far.0 table.old cic.0 (event_of kind code detail)).answer }
-    ensures unpacks { Unpacked result (step_in own.0 far.0 table.old cic.0 (event_of kind code detail)).answer }
-    ensures leaves { table.new ≡ (step_in own.0 far.0 table.old cic.0 (event_of kind code detail)).table }
-{
-    if circuit::bad_codes(own, far) {
-        return answers::refused(names::NO_SUCH_GROUP, 0, 0);
+    held: Held,
+    answer: u64,
+}
+
+impl Landing {
+    // The record that the answer shows is put at the circuit.
+    fn store(self, table: &mut [u8]) -> u64
+        ensures answers { result ≡ self.answer }
+        ensures leaves { table.new ≡ put_shown table.old self.cic.0 self.answer }
+    {
+        layout::put(table, self.cic, answers::held_of(self.answer));
+        self.answer
     }
-    if layout::bad_length(table.len()) {
-        return answers::refused(names::NO_SUCH_GROUP, 0, 0);
+
+    // An event that frees the circuit: the counter goes up by one and the record takes it.
+    fn free(self, table: &mut [u8]) -> u64
+        ensures answers { result ≡ (freeing table.old self.cic.0 self.held.state self.held.flags self.answer).answer }
+        ensures leaves { table.new ≡ (freeing table.old self.cic.0 self.held.state self.held.flags self.answer).table }
+    {
+        let count = layout::counter_in(table);
+        if words::LARGEST <= count {
+            return answers::refused(Refusal::CounterFull as u8, self.held);
+        }
+        let taken = self.store(table);
+        layout::put_counter(table, count + 1);
+        layout::put_rank(table, self.cic, count + 1);
+        taken
+    }
+
+    // An event that the circuit's step does not refuse: one that takes it from another state to idle frees the circuit.
+    fn accept(self, table: &mut [u8]) -> u64
+        ensures answers { result ≡ (accepted table.old self.cic.0 self.held.state self.held.flags self.answer).answer }
+        ensures leaves { table.new ≡ (accepted table.old self.cic.0 self.held.state self.held.flags self.answer).table }
+    {
+        if self.held.state != names::IDLE && answers::held_of(self.answer).state == names::IDLE {
+            self.free(table)
+        } else {
+            self.store(table)
+        }
+    }
+
+    // What the step answered is put into the table.
+    fn land(self, table: &mut [u8]) -> u64
+        ensures answers { result ≡ (landed table.old self.cic.0 self.held.state self.held.flags self.answer).answer }
+        ensures leaves { table.new ≡ (landed table.old self.cic.0 self.held.state self.held.flags self.answer).table }
+    {
+        if answers::refusal_of(self.answer) == names::ACCEPTED {
+            self.accept(table)
+        } else {
+            self.answer
+        }
+    }
+}
+
+// A circuit of the group, which our end controls (con) or not: what is held of it is read once, and written once.
+fn on_circuit(con: bool, table: &mut [u8], cic: Cic, numbers: Numbers) -> u64
+    requires { cic.0 < records_in (length table.old) }
+    ensures packs { result ≡ packed (on_circuit con table.old cic.0 (event_of numbers.kind numbers.code numbers.detail)).answer }
+    ensures unpacks { Unpacked result (on_circuit con table.old cic.0 (event_of numbers.kind numbers.code numbers.detail)).answer }
+    ensures leaves { table.new ≡ (on_circuit con table.old cic.0 (event_of numbers.kind numbers.code numbers.detail)).table }
+{
+    let held = layout::stored_at(table, cic).held;
+    let answer = step::step(con, held, numbers);
+    Landing { cic, held, answer }.land(table)
+}
+
+// An event, by its numbers, on a circuit of the group with these codes and this table. It takes the same time whatever the table's length.
+pub fn step(codes: Codes, table: &mut [u8], cic: Cic, numbers: Numbers) -> u64
+    ensures packs { result ≡ packed (step_in codes.own.0 codes.far.0 table.old cic.0 (event_of numbers.kind numbers.code numbers.detail)).answer }
+    ensures unpacks { Unpacked result (step_in codes.own.0 codes.far.0 table.old cic.0 (event_of numbers.kind numbers.code numbers.detail)).answer }
+    ensures leaves { table.new ≡ (step_in codes.own.0 codes.far.0 table.old cic.0 (event_of numbers.kind numbers.code numbers.detail)).table }
+{
+    if codes.are_bad() || layout::bad_length(table.len()) {
+        return answers::refused(Refusal::NoSuchGroup as u8, NOTHING);
     }
     if layout::ends_before(table.len(), cic) {
-        return answers::refused(names::NO_SUCH_CIRCUIT, 0, 0);
+        return answers::refused(Refusal::NoSuchCircuit as u8, NOTHING);
     }
-    on_circuit(
-        circuit::controls(own, far, cic),
-        table,
-        cic,
-        kind,
-        code,
-        detail,
-    )
+    on_circuit(codes.control(cic), table, cic, numbers)
 }

@@ -3,6 +3,7 @@
 -- a word. Record i is circuit i, and a table of zeros is an idle group.
 -- Assumes nothing.
 use Rattle.std.specs.Prelude.{Bool, cond, ◌&&◌, List, ℕ, ◌+◌, ◌*◌, ◌-◌, ◌/◌, ◌%◌, eqb, leb, length, get_or, set, replicate}
+pub use Rattle.circuit.specs.declared.Held.{Held}
 use Rattle.circuit.specs.declared.Record.{Record}
 use Rattle.circuit.specs.Records.{rec, valid}
 use Rattle.marks.specs.Flags.{flags, own, far, bla, uba}
@@ -61,10 +62,6 @@ abbrev pub allowed_at : List ℕ → ℕ → Bool
 allowed_at table i = allowed (state_at table i) (flags_at table i)
 
 -- what is held of circuit i apart from its rank
-pub record Held : Type 0 where
-  pub state : ℕ
-  pub flags : ℕ
-
 abbrev pub holding : (state flags : ℕ) → Held
 holding s f = record { state = s; flags = f }
 
@@ -73,7 +70,7 @@ held_at table i = holding (state_at table i) (flags_at table i)
 
 -- all that stands at circuit i; zeros where the table has no such circuit
 abbrev pub stored : (state flags rank : ℕ) → Stored
-stored s f r = record { state = s; flags = f; rank = r }
+stored s f r = record { held = holding s f; rank = r }
 
 abbrev pub stored_at : List ℕ → ℕ → Stored
 stored_at table i = cond (leb (table_octets i + record_octets) (length table)) (stored (state_at table i) (flags_at table i) (rank_at table i)) (stored 0 0 0)

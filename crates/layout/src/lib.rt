@@ -6,7 +6,7 @@ ghost use Rattle.std.specs.Prelude.{◌≡◌, ◌+◌, ◌≤◌, ltb};
 ghost use Rattle.layout.specs.Way.{bad_length};
 ghost use Rattle.layout.specs.Layout.{table_octets, records_in, counter_in, allowed, stored_at, put_octets, put_counter, put_rank};
 
-use circuit::Cic;
+use circuit::{Cic, Held};
 
 const COUNTER_OCTETS: usize = 8;
 
@@ -15,11 +15,10 @@ const RECORD_OCTETS: usize = 10;
 // The most circuits of a group.
 const CIRCUITS: usize = 4096;
 
-// What stands at a circuit.
-#[derive(Clone, Copy)]
+// All that stands at a circuit: what is held of it, and its release rank.
+#[derive(Clone, Copy, Debug, PartialEq, Eq)]
 pub struct Stored {
-    pub state: u8,
-    pub flags: u8,
+    pub held: Held,
     pub rank: u64,
 }
 
@@ -50,13 +49,9 @@ pub fn records(octets: usize) -> usize
 pub fn bad_length(octets: usize) -> bool
     ensures { result ≡ bad_length octets }
 {
-    if octets < COUNTER_OCTETS + RECORD_OCTETS {
-        return true;
-    }
-    if COUNTER_OCTETS + RECORD_OCTETS * CIRCUITS < octets {
-        return true;
-    }
-    (octets - COUNTER_OCTETS) % RECORD_OCTETS != 0
+    octets < COUNTER_OCTETS + RECORD_OCTETS
+        || COUNTER_OCTETS + RECORD_OCTETS * CIRCUITS < octets
+        || (octets - COUNTER_OCTETS) % RECORD_OCTETS != 0
 }
 
 // Whether a table of this length ends before the circuit's record does.
@@ -72,17 +67,13 @@ pub fn counter_in(table: &[u8]) -> u64
     words::word(table, 0)
 }
 
-// All that stands at a circuit, by one look at the table's length.
+// All that stands at a circuit, by one look at the table's length; zeros where the table has no such circuit.
 pub fn stored_at(table: &[u8], cic: Cic) -> Stored
     ensures { result ≡ stored_at table.now cic.0 }
 {
     let at = table_octets(cic.0);
     if table.len() < at + RECORD_OCTETS {
-        return Stored {
-            state: 0,
-            flags: 0,
-            rank: 0,
-        };
+        return Stored { held: Held { state: 0, flags: 0 }, rank: 0 };
     }
     let rank = words::number(
         table[at + 2],
@@ -94,33 +85,28 @@ pub fn stored_at(table: &[u8], cic: Cic) -> Stored
         table[at + 8],
         table[at + 9],
     );
-    Stored {
-        state: table[at],
-        flags: table[at + 1],
-        rank: rank,
-    }
+    let held = Held { state: table[at], flags: table[at + 1] };
+    Stored { held, rank }
 }
 
-// Whether two octets, state and flags, are a legal record (docs/RULES.md, "Records"): refusal 12 is for the others.
-pub fn allowed(state: u8, flags: u8) -> bool
-    ensures { result ≡ allowed state flags }
+// Whether what is held is a legal record (docs/RULES.md, "Records"): refusal 12 is for the others.
+pub fn allowed(held: Held) -> bool
+    ensures { result ≡ allowed held.state held.flags }
 {
-    if state < names::AWAITING_RESET {
-        return marks::legal(flags);
+    if held.state < names::AWAITING_RESET {
+        marks::legal(held.flags)
+    } else {
+        held.state == names::AWAITING_RESET && marks::legal_in_reset(held.flags)
     }
-    if state == names::AWAITING_RESET {
-        return marks::legal_in_reset(flags);
-    }
-    false
 }
 
-// Puts a record's two octets at a circuit, which keeps its rank.
-pub fn put(table: &mut [u8], cic: Cic, state: u8, flags: u8)
-    ensures { table.new ≡ put_octets table.old cic.0 state flags }
+// Puts what is held of a circuit, which keeps its rank.
+pub fn put(table: &mut [u8], cic: Cic, held: Held)
+    ensures { table.new ≡ put_octets table.old cic.0 held.state held.flags }
 {
     let at = table_octets(cic.0);
-    words::put_octet(table, at, 0, state);
-    words::put_octet(table, at, 1, flags);
+    words::put_octet(table, at, 0, held.state);
+    words::put_octet(table, at, 1, held.flags);
 }
 
 pub fn put_counter(table: &mut [u8], count: u64)

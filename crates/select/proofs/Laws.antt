@@ -19,11 +19,10 @@ use Rattle.layout.specs.Layout.{records_in, state_at, rank_at, record_of, record
 use Rattle.group.specs.Table.{step_in}
 use Rattle.group.specs.Refusals.{refusal_in}
 use Rattle.group.proofs.Laws as Group
-use Rattle.select.specs.declared.Selected.{Selected}
 use Rattle.select.specs.First.{first, some, best}
 use Rattle.select.specs.Way.{Best}
 use Rattle.select.proofs.First.{first_holds, first_not, none_of, none_at, the_best, is_the_best}
-use Rattle.select.specs.Selection.{refused, taken, qualifies, ours, theirs, earlier, later, stops, looked, choice, bad, select_rules, choosing, select_in}
+use Rattle.select.specs.Selection.{Selected, refused, taken, qualifies, ours, theirs, earlier, later, stops, looked, choice, bad, select_rules, choosing, select_in}
 use Rattle.select.specs.Way.{sought}
 use Rattle.select.proofs.Searching.{no_group, in_group}
 use Rattle.select.proofs.Orders.{before, Ahead, Ahead.by_rank, Ahead.by_number, view, order, first_unused}

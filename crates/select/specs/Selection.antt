@@ -1,11 +1,20 @@
 -- Which circuit to seize (docs/RULES.md, "Choice of a circuit"; Q.724, 2.4, method 2). This says what the answer is, not how it is found.
 -- Assumes nothing.
-use Rattle.std.specs.Prelude.{Bool, not, cond, ◌&&◌, ◌||◌, List, [], ◌∷◌, ℕ, zero, suc, ◌+◌, eqb, leb, ltb, length}
+use Rattle.std.specs.Prelude.{Bool, not, cond, ◌&&◌, ◌||◌, List, [], ◌∷◌, ℕ, zero, suc, ◌+◌, eqb, leb, ltb, length, Result, Ok, Err}
+use Rattle.circuit.specs.declared.Cic.{Cic}
 use Rattle.circuit.specs.Groups.{bad_group, controls}
 use Rattle.circuit.specs.Refusals.{Rule, refuse, first_rule}
 use Rattle.layout.specs.Layout.{records_in, state_at, flags_at, rank_at, record_of, allowed_at}
-use Rattle.select.specs.declared.Selected.{Selected}
+use Rattle.names.specs.declared.Refusal.{Refusal}
+use Rattle.names.specs.Refusal.{number_of}
+use Rattle.select.specs.declared.Choice.{Choice}
 use Rattle.select.specs.First.{first, some, best}
+
+-- what selection answers: the refusal's number, 0 where there is none; the circuit; how many records were looked at
+pub record Selected : Type 0 where
+  pub refusal : ℕ
+  pub cic : Cic
+  pub looked : ℕ
 
 -- each refusal reports circuit 0 and count 0
 abbrev pub refused : (n : ℕ) → Selected
@@ -13,6 +22,14 @@ refused n = record { refusal = n; cic = record { 0 = 0 }; looked = 0 }
 
 abbrev pub taken : (cic looked : ℕ) → Selected
 taken cic looked = record { refusal = 0; cic = record { 0 = cic }; looked = looked }
+
+-- what the program's answers tell
+abbrev pub choosing_of : Choice → Selected
+choosing_of c = taken c.cic.0 c.looked
+
+abbrev pub told : Result Choice Refusal → Selected
+told (Ok c) = choosing_of c
+told (Err e) = refused (number_of e)
 
 -- the idle circuits without far block
 abbrev pub free : (state flags : ℕ) → Bool

@@ -2,9 +2,8 @@
 -- Assumes nothing.
 use Rattle.std.specs.Prelude.{Bool, cond, ◌&&◌, ℕ, ◌<◌, T, eqb, leb, ◌≡◌, List}
 use Rattle.layout.specs.Layout.{rank_at}
-use Rattle.select.specs.declared.Selected.{Selected}
 use Rattle.select.specs.First.{some, best}
-use Rattle.select.specs.Selection.{refused, taken, ours, theirs, earlier, later, stops, looked, bad}
+use Rattle.select.specs.Selection.{Selected, refused, taken, ours, theirs, earlier, later, stops, looked, bad}
 
 -- b is the best of the first n
 pub record Best (among : ℕ → Bool) (goes : ℕ → ℕ → Bool) (n b : ℕ) : Type 0 where

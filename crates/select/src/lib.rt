@@ -5,46 +5,25 @@ ghost use Rattle.std.specs.Prelude.{◌≡◌, not, ◌%◌, ◌<◌, ◌≤◌,
 ghost use Rattle.layout.specs.Layout.{records_in};
 ghost use Rattle.circuit.specs.Groups.{by_parity};
 ghost use Rattle.select.specs.First.{some};
-ghost use Rattle.select.specs.Selection.{refused, taken, free, select_in};
+ghost use Rattle.select.specs.Selection.{choosing_of, told, free, select_in};
 ghost use Rattle.select.specs.Way.{bad_from, concluded, searched, Led, sought};
 
-use circuit::{Cic, PointCode};
+use circuit::{Cic, Codes};
 use layout::Stored;
+use names::Refusal;
 
-// What selection answers: the refusal's number, 0 where there is none; the circuit; how many records were looked at.
-#[derive(Clone, Copy)]
-pub struct Selected {
-    pub refusal: u8,
+// The circuit that is chosen, and how many records were looked at.
+#[derive(Clone, Copy, Debug, PartialEq, Eq)]
+pub struct Choice {
     pub cic: Cic,
     pub looked: u32,
 }
 
-fn refused(n: u8) -> Selected
-    ensures { result ≡ refused n }
-{
-    Selected {
-        refusal: n,
-        cic: Cic(0),
-        looked: 0,
-    }
-}
-
-fn taken(cic: u32, looked: u32) -> Selected
-    ensures { result ≡ taken cic looked }
-{
-    Selected {
-        refusal: names::ACCEPTED,
-        cic: Cic(cic),
-        looked: looked,
-    }
-}
-
 // An idle circuit without far block.
 fn free(at: Stored) -> bool
-    ensures { result ≡ free at.state at.flags }
+    ensures { result ≡ free at.held.state at.held.flags }
 {
-    let far = marks::far(at.flags);
-    circuit::both(at.state == names::IDLE, !far)
+    at.held.state == names::IDLE && !marks::far(at.held.flags)
 }
 
 // Whether all records from one on are allowed.
@@ -53,8 +32,7 @@ fn allowed_from(table: &[u8], from: u32, records: u32) -> bool
     ensures { result ≡ not (some records (bad_from table.now from)) }
 {
     for i in from..records {
-        let at = layout::stored_at(table, Cic(i));
-        if !layout::allowed(at.state, at.flags) {
+        if !layout::allowed(layout::stored_at(table, Cic(i)).held) {
             return false;
         }
     }
@@ -62,69 +40,66 @@ fn allowed_from(table: &[u8], from: u32, records: u32) -> bool
 }
 
 // Those of ours from one on, where circuit `best` with its rank is the best of ours before it. Every second circuit is ours.
-fn ours_from(table: &[u8], from: u32, best: u32, rank: u64, records: u32) -> Selected
+fn ours_from(table: &[u8], from: u32, best: u32, rank: u64, records: u32) -> Choice
     requires records_bound { (records ≤ records_in (length table.now)) × (records ≤ 4096) × (best < records) }
     requires led { Led (by_parity (from % 2)) table.now from best rank }
-    ensures { result ≡ sought (by_parity (from % 2)) table.now records }
+    ensures { choosing_of result ≡ sought (by_parity (from % 2)) table.now records }
 {
     let mut chosen = best;
     let mut lowest = rank;
-    let mut i = from;
-    while i < records {
+    for i in (from..records).step_by(2) {
         let at = layout::stored_at(table, Cic(i));
         if !free(at) {
-            i += 2;
             continue;
         }
         if at.rank == 0 {
-            return taken(i, i + 1);
+            return Choice { cic: Cic(i), looked: i + 1 };
         }
         if at.rank < lowest {
             chosen = i;
             lowest = at.rank;
         }
-        i += 2;
     }
-    taken(chosen, records)
+    Choice { cic: Cic(chosen), looked: records }
 }
 
 // None of ours qualified; `theirs` is their best, or `records` if there is none.
-fn conclude(theirs: u32, records: u32) -> Selected
-    ensures { result ≡ concluded theirs records }
+fn conclude(theirs: u32, records: u32) -> Result<Choice, Refusal>
+    ensures { told result ≡ concluded theirs records }
 {
     if theirs == records {
-        refused(names::NO_CIRCUIT)
+        Err(Refusal::NoCircuit)
     } else {
-        taken(theirs, records)
+        Ok(Choice { cic: Cic(theirs), looked: records })
     }
 }
 
 // Judges each record and looks at it, where ours are the circuits of one parity. Once one of ours is found, the other records are judged, and only
 // ours among them are looked at. It stops at one of ours with rank 0: none can have been released before it.
-fn search(first: u32, table: &[u8], records: u32) -> Selected
+fn search(first: u32, table: &[u8], records: u32) -> Result<Choice, Refusal>
     requires { (records ≤ records_in (length table.now)) × (records ≤ 4096) }
-    ensures { result ≡ searched (by_parity first) table.now records }
+    ensures { told result ≡ searched (by_parity first) table.now records }
 {
     let mut theirs = records;
     let mut highest = 0;
     for i in 0..records {
         let at = layout::stored_at(table, Cic(i));
-        if !layout::allowed(at.state, at.flags) {
-            return refused(names::BAD_RECORD);
+        if !layout::allowed(at.held) {
+            return Err(Refusal::BadRecord);
         }
         if !free(at) {
             continue;
         }
         if i % 2 == first {
             if !allowed_from(table, i + 1, records) {
-                return refused(names::BAD_RECORD);
+                return Err(Refusal::BadRecord);
             }
             if at.rank == 0 {
-                return taken(i, i + 1);
+                return Ok(Choice { cic: Cic(i), looked: i + 1 });
             }
-            return ours_from(table, i + 2, i, at.rank, records);
+            return Ok(ours_from(table, i + 2, i, at.rank, records));
         }
-        if circuit::either(theirs == records, highest < at.rank) {
+        if theirs == records || highest < at.rank {
             theirs = i;
             highest = at.rank;
         }
@@ -133,12 +108,12 @@ fn search(first: u32, table: &[u8], records: u32) -> Selected
 }
 
 // The circuit to seize in the group with these codes and this table: each record is judged once, and looked at at most once.
-pub fn select(own: PointCode, far: PointCode, table: &[u8]) -> Selected
-    ensures { result ≡ select_in own.0 far.0 table.now }
+pub fn select(codes: Codes, table: &[u8]) -> Result<Choice, Refusal>
+    ensures { told result ≡ select_in codes.own.0 codes.far.0 table.now }
 {
     let records = layout::records(table.len());
-    if circuit::bad_group(own, far, records) {
-        return refused(names::NO_SUCH_GROUP);
+    if codes.bad_group(records) {
+        return Err(Refusal::NoSuchGroup);
     }
-    search(circuit::lowest(own, far), table, records as u32)
+    search(codes.lowest(), table, records as u32)
 }
