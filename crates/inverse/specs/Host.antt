@@ -7,7 +7,7 @@ use Rattle.words.specs.Octets.{number_of}
 use Rattle.reader.specs.declared.Fields.{Fields}
 use Rattle.reader.specs.Faults.{Fault, fault, rules_of}
 use Rattle.reader.specs.Reading.{read_faults}
-use Rattle.writer.specs.declared.Written.{Written}
+use Rattle.writer.specs.Writing.{Written}
 
 -- what the reader that fills a lent buffer looks for, in order: what the reader does, and then a buffer under 23 octets
 abbrev pub into_faults : (own far count : ℕ) → List ℕ → (room : ℕ) → List Fault

@@ -2,10 +2,9 @@
 -- Assumes nothing.
 use Rattle.std.specs.Prelude.{cond, List, [], ◌∷◌, ◌++◌, ℕ, zero, suc, ◌+◌, ◌*◌, min, ltb, length}
 use Rattle.reader.specs.declared.Fields.{Fields}
-use Rattle.writer.specs.declared.Written.{Written}
 use Rattle.words.specs.Octets.{low_first, over}
 use Rattle.reader.specs.Reading.{fields_of}
-use Rattle.writer.specs.Writing.{Said, writing}
+use Rattle.writer.specs.Writing.{Said, Written, writing}
 
 -- the fields of a message in 23 octets: circuit (two, lowest first), heading, ACM's octet, category, indicators (two, lowest first), count,
 -- fifteen codes

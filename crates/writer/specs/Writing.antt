@@ -1,9 +1,11 @@
 -- What the writer answers, and what the buffer holds then (docs/RULES.md, "Messages on the link" and "Refusals").
 -- Assumes nothing.
-use Rattle.std.specs.Prelude.{Bool, cond, not, ◌&&◌, ◌||◌, List, [], ◌∷◌, ℕ, zero, suc, eqb, ltb, length}
+use Rattle.std.specs.Prelude.{Bool, cond, not, ◌&&◌, ◌||◌, List, [], ◌∷◌, ℕ, zero, suc, eqb, ltb, length, Result, Ok, Err}
 use Rattle.circuit.specs.Groups.{bad_group}
-use Rattle.writer.specs.declared.Written.{Written}
+use Rattle.writer.specs.declared.Draft.{Draft}
 use Rattle.circuit.specs.Refusals.{refuse, Rule, first_rule}
+use Rattle.names.specs.declared.Refusal.{Refusal}
+use Rattle.names.specs.Refusal.{number_of}
 use Rattle.formats.specs.Format.{Name, DPC, OPC, CIC, HEADING, ACM, CATEGORY, INDICATORS, COUNT, Format, Content, octets_from, most}
 use Rattle.formats.specs.Messages.{format_of, signals_behind, has_signals, listed}
 use Rattle.formats.specs.Octets.{bad_codes, above_fifteen, short}
@@ -20,6 +22,10 @@ pub record Said : Type 0 where
 
 abbrev pub said : ℕ → ℕ → ℕ → ℕ → ℕ → List ℕ → Said
 said cic heading acm category indicators address = record { cic = cic; heading = heading; acm = acm; category = category; indicators = indicators; address = address }
+
+-- what the program is told to say
+abbrev pub said_by : Draft → Said
+said_by m = said m.cic.0 m.heading m.acm m.category m.indicators m.address.now
 
 -- a field is too large or has a spare bit set; of a message with address signals also a code above 15, of any other any address
 abbrev pub too_large_for : Format → Said → Bool
@@ -66,6 +72,11 @@ write_rules own far records m room =
     ∷ refuse 11 (ltb room (length (octets_of own far m)))
     ∷ []
 
+-- the refusal's number, 0 where there is none, and how many octets the message has, 0 where it is refused
+pub record Written : Type 0 where
+  pub refusal : ℕ
+  pub length : ℕ
+
 -- the answer, and the buffer after it
 pub record Outcome : Type 0 where
   pub answer : Written
@@ -82,3 +93,8 @@ putting (suc n) xs buffer = record { answer = unwritten (suc n); buffer = buffer
 
 unfoldable pub writing : ℕ → ℕ → ℕ → Said → List ℕ → Outcome
 writing own far records m buffer = putting (first_rule (write_rules own far records m (length buffer))) (octets_of own far m) buffer
+
+-- what the program's answer says in numbers
+abbrev pub told : Result ℕ Refusal → Written
+told (Ok n) = record { refusal = 0; length = n }
+told (Err e) = unwritten (number_of e)

@@ -8,27 +8,28 @@ ghost use Rattle.formats.specs.Messages.{format_of, fixed_length, half, listed, 
 ghost use Rattle.formats.specs.Octets.{above_fifteen};
 ghost use Rattle.formats.specs.Way.{pairs};
 ghost use Rattle.words.specs.Octets.{over};
-ghost use Rattle.writer.specs.Writing.{said, too_large, bad_address, unwritten, writing};
+ghost use Rattle.writer.specs.Writing.{said_by, too_large, writing, told};
 ghost use Rattle.writer.specs.Way.{label_of, plain_octets, acm_octets, iam_head, iam_writing, short_writing};
 
-use circuit::{Cic, PointCode};
+use circuit::{Cic, Codes};
+use names::Refusal;
 
-// The largest circuit number, address signal and count of them, and the most that a field may be: no spare bit is set.
+// The largest circuit number, and the most that a field may be: no spare bit is set.
 const LAST_CIC: u32 = 4095;
-
-const LAST_CODE: u8 = 15;
-
-const MOST_CODES: usize = 15;
 
 const SIX_BITS: u32 = 63;
 
 const INDICATORS: u32 = 2047;
 
-// The refusal's number, 0 where there is none, and how many octets the message has, 0 where it is refused.
+// A message that is to be written, by numbers. A field that the heading does not have is 0, and the address of any message but an IAM is empty.
 #[derive(Clone, Copy)]
-pub struct Written {
-    pub refusal: u8,
-    pub length: u8,
+pub struct Draft<'a> {
+    pub cic: Cic,
+    pub heading: u32,
+    pub acm: u32,
+    pub category: u32,
+    pub indicators: u32,
+    pub address: &'a [u8],
 }
 
 // The most that a field may be, 0 where the heading does not have it.
@@ -38,56 +39,24 @@ fn limit(has: bool, most: u32) -> u32
     if has { most } else { 0 }
 }
 
-fn above_fifteen(address: &[u8]) -> bool
-    ensures { result ≡ above_fifteen address.now }
-{
-    let mut i = 0;
-    while i < address.len() {
-        if LAST_CODE < address[i] {
+impl Draft<'_> {
+    // Whether a field is refused 3.
+    fn too_large(self) -> bool
+        ensures { result ≡ too_large (said_by self.entry) }
+    {
+        let iam = self.heading == formats::IAM;
+        if limit(self.heading == formats::ACM, SIX_BITS) < self.acm
+            || limit(iam, SIX_BITS) < self.category
+            || limit(iam, INDICATORS) < self.indicators
+        {
             return true;
         }
-        i += 1;
+        if iam {
+            formats::above_fifteen(self.address)
+        } else {
+            !self.address.is_empty()
+        }
     }
-    false
-}
-
-// Whether a field is refused 3.
-fn too_large(
-    cic: u32,
-    heading: u32,
-    acm: u32,
-    category: u32,
-    indicators: u32,
-    address: &[u8],
-) -> bool
-    ensures { result ≡ too_large (said cic heading acm category indicators address.now) }
-{
-    let iam = heading == formats::IAM;
-    if limit(heading == formats::ACM, SIX_BITS) < acm {
-        return true;
-    }
-    if limit(iam, SIX_BITS) < category {
-        return true;
-    }
-    if limit(iam, INDICATORS) < indicators {
-        return true;
-    }
-    if iam {
-        return above_fifteen(address);
-    }
-    0 < address.len()
-}
-
-fn bad_address(address: &[u8]) -> bool
-    ensures { result ≡ bad_address address.now }
-{
-    if address.len() == 0 {
-        return true;
-    }
-    if MOST_CODES < address.len() {
-        return true;
-    }
-    formats::bad_codes(address)
 }
 
 // Label and heading at the start of a buffer.
@@ -95,15 +64,7 @@ fn put_plain(label: u64, heading: u8, out: &mut [u8])
     requires { 6 ≤ length out.old }
     ensures { out.new ≡ over (plain_octets label heading) out.old }
 {
-    let label1 = label / 256;
-    let label2 = label1 / 256;
-    let label3 = label2 / 256;
-    let label4 = label3 / 256;
-    out[0] = (label % 256) as u8;
-    out[1] = (label1 % 256) as u8;
-    out[2] = (label2 % 256) as u8;
-    out[3] = (label3 % 256) as u8;
-    out[4] = (label4 % 256) as u8;
+    out[..5].copy_from_slice(&label.to_le_bytes()[..5]);
     out[5] = heading;
 }
 
@@ -117,14 +78,13 @@ fn put_acm(label: u64, acm: u8, out: &mut [u8])
 }
 
 // An IAM up to its address signals.
-fn put_iam(label: u64, category: u8, word: u32, out: &mut [u8])
+fn put_iam(label: u64, category: u8, word: u16, out: &mut [u8])
     requires { 9 ≤ length out.old }
     ensures { out.new ≡ over (iam_head label category word) out.old }
 {
     put_plain(label, formats::IAM as u8, out);
     out[6] = category;
-    out[7] = (word % 256) as u8;
-    out[8] = (word / 256 % 256) as u8;
+    out[7..9].copy_from_slice(&word.to_le_bytes());
 }
 
 // The address signals of an IAM, from octet 9 on.
@@ -143,108 +103,76 @@ fn put_pairs(address: &[u8], out: &mut [u8])
     }
 }
 
-fn unwritten(n: u8) -> Written
-    ensures { result ≡ unwritten n }
-{
-    Written {
-        refusal: n,
-        length: 0,
-    }
-}
-
 // The label of a message that we send.
-fn label_to(own: PointCode, far: PointCode, cic: Cic) -> u64
-    ensures { result ≡ label_of own.0 far.0 cic.0 }
+fn label_to(codes: Codes, cic: Cic) -> u64
+    ensures { result ≡ label_of codes.own.0 codes.far.0 cic.0 }
 {
-    far.0 as u64 + formats::OPC_PLACE * (own.0 as u64) + formats::CIC_PLACE * (cic.0 as u64)
+    u64::from(codes.far.0)
+        + formats::OPC_PLACE * u64::from(codes.own.0)
+        + formats::CIC_PLACE * u64::from(cic.0)
 }
 
 // An IAM whose fields are in order.
-fn write_iam(label: u64, category: u32, indicators: u32, address: &[u8], out: &mut [u8]) -> Written
-    requires { (category ≤ 63) × (indicators ≤ 2047) × (above_fifteen address.now ≡ false) }
-    ensures answers { result ≡ (iam_writing label category indicators address.now out.old).answer }
-    ensures leaves { out.new ≡ (iam_writing label category indicators address.now out.old).buffer }
+fn write_iam(label: u64, m: Draft, out: &mut [u8]) -> Result<u8, Refusal>
+    requires { (m.category ≤ 63) × (m.indicators ≤ 2047) × (above_fifteen m.address.now ≡ false) }
+    ensures answers { told result ≡ (iam_writing label m.entry.category m.entry.indicators m.entry.address.now out.old).answer }
+    ensures leaves { out.new ≡ (iam_writing label m.entry.category m.entry.indicators m.entry.address.now out.old).buffer }
 {
-    if bad_address(address) {
-        return unwritten(names::WRONG_ADDRESS);
+    if formats::bad_address(m.address) {
+        return Err(Refusal::WrongAddress);
     }
-    if formats::short(indicators, address) {
-        return unwritten(names::SHORT_NUMBER);
+    if formats::short(m.indicators, m.address) {
+        return Err(Refusal::ShortNumber);
     }
-    let count = address.len();
+    let count = m.address.len();
     let need = formats::IAM_OCTETS + (count + 1) / 2;
     if out.len() < need {
-        return unwritten(names::OUTPUT_TOO_SHORT);
+        return Err(Refusal::OutputTooShort);
     }
-    put_iam(
-        label,
-        category as u8,
-        indicators + formats::COUNT_PLACE as u32 * (count as u32),
-        out,
-    );
-    put_pairs(address, out);
-    Written {
-        refusal: names::ACCEPTED,
-        length: need as u8,
-    }
+    let word = m.indicators + formats::COUNT_PLACE as u32 * (count as u32);
+    put_iam(label, m.category as u8, word as u16, out);
+    put_pairs(m.address, out);
+    Ok(need as u8)
 }
 
 // Any other message whose fields are in order.
-fn write_short(label: u64, heading: u32, acm: u32, fixed: usize, out: &mut [u8]) -> Written
+fn write_short(label: u64, heading: u32, acm: u32, fixed: usize, out: &mut [u8]) -> Result<u8, Refusal>
     requires { (listed heading ≡ true) × (is_iam heading ≡ false) × (acm ≤ most (format_of heading).fields ACM) × (fixed ≡ fixed_length heading) }
-    ensures answers { result ≡ (short_writing label heading acm out.old).answer }
+    ensures answers { told result ≡ (short_writing label heading acm out.old).answer }
     ensures leaves { out.new ≡ (short_writing label heading acm out.old).buffer }
 {
     if out.len() < fixed {
-        return unwritten(names::OUTPUT_TOO_SHORT);
+        return Err(Refusal::OutputTooShort);
     }
     if heading == formats::ACM {
         put_acm(label, acm as u8, out);
-        return Written {
-            refusal: names::ACCEPTED,
-            length: formats::ACM_OCTETS as u8,
-        };
+    } else {
+        put_plain(label, heading as u8, out);
     }
-    put_plain(label, heading as u8, out);
-    Written {
-        refusal: names::ACCEPTED,
-        length: formats::PLAIN_OCTETS as u8,
-    }
+    Ok(fixed as u8)
 }
 
-// Writes a message to the far end into `out`, whose octets beyond it keep their contents. A field that the heading does not have is 0, and
-// the address of any message but an IAM is empty.
-pub fn write(
-    own: PointCode,
-    far: PointCode,
-    records: usize,
-    cic: Cic,
-    heading: u32,
-    acm: u32,
-    category: u32,
-    indicators: u32,
-    address: &[u8],
-    out: &mut [u8],
-) -> Written
-    ensures answers { result ≡ (writing own.0 far.0 records (said cic.0 heading acm category indicators address.now) out.old).answer }
-    ensures leaves { out.new ≡ (writing own.0 far.0 records (said cic.0 heading acm category indicators address.now) out.old).buffer }
+// Writes a message to the far end into `out`, whose octets beyond it keep their contents, and answers its length.
+pub fn write(codes: Codes, records: usize, m: Draft, out: &mut [u8]) -> Result<u8, Refusal>
+    ensures answers { told result ≡ (writing codes.own.0 codes.far.0 records (said_by m.entry) out.old).answer }
+    ensures leaves { out.new ≡ (writing codes.own.0 codes.far.0 records (said_by m.entry) out.old).buffer }
 {
-    if circuit::bad_group(own, far, records) {
-        return unwritten(names::NO_SUCH_GROUP);
+    if codes.bad_group(records) {
+        return Err(Refusal::NoSuchGroup);
     }
-    if LAST_CIC < cic.0 {
-        return unwritten(names::NO_SUCH_CIRCUIT);
+    if LAST_CIC < m.cic.0 {
+        return Err(Refusal::NoSuchCircuit);
     }
-    let fixed = formats::fixed_length(heading);
+    let fixed = formats::fixed_length(m.heading);
     if fixed == 0 {
-        return unwritten(names::NO_SUCH_HEADING);
+        return Err(Refusal::NoSuchHeading);
     }
-    if too_large(cic.0, heading, acm, category, indicators, address) {
-        return unwritten(names::NO_SUCH_EVENT);
+    if m.too_large() {
+        return Err(Refusal::NoSuchEvent);
     }
-    let label = label_to(own, far, cic);
-    if heading == formats::IAM {
-        return write_iam(label, category, indicators, address, out);
+    let label = label_to(codes, m.cic);
+    if m.heading == formats::IAM {
+        return write_iam(label, m, out);
     }
-    write_short(label, heading, acm, fixed, out)
+    write_short(label, m.heading, m.acm, fixed, out)
 }
