@@ -1,60 +1,153 @@
-// What a command of the host and a timer do to a circuit: the rows of docs/RULES.md, "Commands" and "Timers", a function each. A record is two
+// What a command of the host and a timer do to a circuit: the rows of docs/RULES.md, "Commands" and "Timers". What is held of a circuit are two
 // octets, its state and its flags; the answer is one number (`answers`).
 #![tactic(auto)]
 
-ghost use Rattle.std.specs.Prelude.{◌≡◌, cond, ◌&&◌, leb};
+ghost use Rattle.std.specs.Prelude.{◌≡◌, cond};
 ghost use Rattle.answers.specs.Answers.{word};
 ghost use Rattle.commands.specs.Tables.{late};
 ghost use Rattle.commands.specs.Way.{within, command_way, timer_way};
 ghost use Rattle.codes.specs.Headings.{heading_of};
 ghost use Rattle.commands.specs.Tables.{answer_signal};
+ghost use Rattle.names.specs.Refusal.{number_of};
 
-use circuit::{AddressType, Charging, Command, Failure, Timer};
+use circuit::{Charging, Command, Failure, Held, Timer};
+use marks::Flags;
+use names::Refusal;
 
-// An event that is taken in the states from `low` to `high`: it sends a signal and goes to a new state, with the flags as they are. Elsewhere it is
+// A row that keeps the flags: in the states from `low` to `high` a signal is sent, and the circuit goes to a new state; elsewhere the event is
 // refused.
-fn within(state: u8, flags: u8, low: u8, high: u8, heading: u8, new: u8, ind: u8, unmet: u8) -> u64
-    ensures { result ≡ within state flags low high heading new ind unmet }
-{
-    if circuit::both(low <= state, state <= high) {
-        answers::sent(heading, new, flags, ind)
-    } else {
-        answers::refused(unmet, state, flags)
+#[derive(Clone, Copy, Debug, PartialEq, Eq)]
+struct Transition {
+    low: u8,
+    high: u8,
+    heading: u8,
+    new: u8,
+    ind: u8,
+    unmet: Refusal,
+}
+
+impl Transition {
+    fn answer(self, held: Held) -> u64
+        ensures { result ≡ within held.state held.flags self.low self.high self.heading self.new self.ind (number_of self.unmet) }
+    {
+        if self.low <= held.state && held.state <= self.high {
+            answers::sent(
+                self.heading,
+                Held {
+                    state: self.new,
+                    ..held
+                },
+                self.ind,
+            )
+        } else {
+            refused(self.unmet, held)
+        }
     }
 }
 
-fn seize(state: u8, flags: u8) -> u64
-    ensures { result ≡ command_way state flags Command.Seize }
+const SEIZE: Transition = Transition {
+    low: names::IDLE,
+    high: names::IDLE,
+    heading: names::IAM,
+    new: names::OUT_SEIZED,
+    ind: names::IND_NOTHING,
+    unmet: Refusal::CommandNotAllowed,
+};
+
+const RELEASE: Transition = Transition {
+    low: names::OUT_SEIZED,
+    high: names::OUT_HUNG_UP,
+    heading: names::CLF,
+    new: names::AWAITING_RELEASE_GUARD,
+    ind: names::IND_NOTHING,
+    unmet: Refusal::CommandNotAllowed,
+};
+
+// Where the subscriber is not free.
+const ADDRESS_COMPLETE: Transition = Transition {
+    low: names::IN_SEIZED,
+    high: names::IN_SEIZED,
+    heading: names::ACM,
+    new: names::IN_PROCEEDING,
+    ind: names::IND_NOTHING,
+    unmet: Refusal::CommandNotAllowed,
+};
+
+// With charge.
+const ANSWER: Transition = Transition {
+    low: names::IN_PROCEEDING,
+    high: names::IN_SUBSCRIBER_FREE,
+    heading: names::ANC,
+    new: names::IN_ANSWERED,
+    ind: names::IND_NOTHING,
+    unmet: Refusal::CommandNotAllowed,
+};
+
+const CLEAR_BACK: Transition = Transition {
+    low: names::IN_ANSWERED,
+    high: names::IN_ANSWERED,
+    heading: names::CBK,
+    new: names::IN_HUNG_UP,
+    ind: names::IND_NOTHING,
+    unmet: Refusal::CommandNotAllowed,
+};
+
+const RE_ANSWER: Transition = Transition {
+    low: names::IN_HUNG_UP,
+    high: names::IN_HUNG_UP,
+    heading: names::RAN,
+    new: names::IN_ANSWERED,
+    ind: names::IND_NOTHING,
+    unmet: Refusal::CommandNotAllowed,
+};
+
+// With CFL, which is late.
+const FAIL_CALL: Transition = Transition {
+    low: names::IN_SEIZED,
+    high: names::IN_PROCEEDING,
+    heading: names::CFL,
+    new: names::IN_FAILED,
+    ind: names::IND_NOTHING,
+    unmet: Refusal::CommandNotAllowed,
+};
+
+const ADDRESS_WAIT: Transition = Transition {
+    low: names::OUT_SEIZED,
+    high: names::OUT_SEIZED,
+    heading: names::CLF,
+    new: names::AWAITING_RELEASE_GUARD,
+    ind: names::IND_CALL_FAILED,
+    unmet: Refusal::TimerNotRunning,
+};
+
+const INCOMING_HANG_UP: Transition = Transition {
+    low: names::IN_HUNG_UP,
+    high: names::IN_HUNG_UP,
+    heading: names::CFL,
+    new: names::IN_FAILED,
+    ind: names::IND_NOTHING,
+    unmet: Refusal::TimerNotRunning,
+};
+
+// What a restart leaves.
+const RESTARTED: Held = Held {
+    state: names::AWAITING_RESET,
+    flags: marks::NONE,
+};
+
+fn refused(r: Refusal, held: Held) -> u64
+    ensures { result ≡ word (number_of r) 0 held.state held.flags 0 0 }
 {
-    if circuit::both(state == names::IDLE, marks::far(flags)) {
-        answers::refused(names::FAR_BLOCKED, state, flags)
-    } else {
-        within(
-            state,
-            flags,
-            names::IDLE,
-            names::IDLE,
-            names::IAM,
-            names::OUT_SEIZED,
-            names::IND_NOTHING,
-            names::COMMAND_NOT_ALLOWED,
-        )
-    }
+    answers::refused(u8::from(r), held)
 }
 
-fn release(state: u8, flags: u8) -> u64
-    ensures { result ≡ command_way state flags Command.Release }
+fn seize(held: Held) -> u64
+    ensures { result ≡ command_way held.state held.flags Command.Seize }
 {
-    within(
-        state,
-        flags,
-        names::OUT_SEIZED,
-        names::OUT_HUNG_UP,
-        names::CLF,
-        names::AWAITING_RELEASE_GUARD,
-        names::IND_NOTHING,
-        names::COMMAND_NOT_ALLOWED,
-    )
+    if held.state == names::IDLE && Flags::from(held.flags).far {
+        return refused(Refusal::FarBlocked, held);
+    }
+    SEIZE.answer(held)
 }
 
 fn proceeding(free: bool) -> u8
@@ -67,22 +160,6 @@ fn proceeding(free: bool) -> u8
     }
 }
 
-fn address_complete(state: u8, flags: u8, t: AddressType, free: bool) -> u64
-    ensures { result ≡ command_way state flags (Command.AddressComplete t free) }
-{
-    let new = proceeding(free);
-    within(
-        state,
-        flags,
-        names::IN_SEIZED,
-        names::IN_SEIZED,
-        names::ACM,
-        new,
-        names::IND_NOTHING,
-        names::COMMAND_NOT_ALLOWED,
-    )
-}
-
 fn answer_heading(charging: Charging) -> u8
     ensures { result ≡ heading_of (answer_signal charging) }
 {
@@ -92,66 +169,10 @@ fn answer_heading(charging: Charging) -> u8
     }
 }
 
-fn answer(state: u8, flags: u8, charging: Charging) -> u64
-    ensures { result ≡ command_way state flags (Command.Answer charging) }
-{
-    let heading = answer_heading(charging);
-    within(
-        state,
-        flags,
-        names::IN_PROCEEDING,
-        names::IN_SUBSCRIBER_FREE,
-        heading,
-        names::IN_ANSWERED,
-        names::IND_NOTHING,
-        names::COMMAND_NOT_ALLOWED,
-    )
-}
-
-fn clear_back(state: u8, flags: u8) -> u64
-    ensures { result ≡ command_way state flags Command.ClearBack }
-{
-    within(
-        state,
-        flags,
-        names::IN_ANSWERED,
-        names::IN_ANSWERED,
-        names::CBK,
-        names::IN_HUNG_UP,
-        names::IND_NOTHING,
-        names::COMMAND_NOT_ALLOWED,
-    )
-}
-
-fn re_answer(state: u8, flags: u8) -> u64
-    ensures { result ≡ command_way state flags Command.ReAnswer }
-{
-    within(
-        state,
-        flags,
-        names::IN_HUNG_UP,
-        names::IN_HUNG_UP,
-        names::RAN,
-        names::IN_ANSWERED,
-        names::IND_NOTHING,
-        names::COMMAND_NOT_ALLOWED,
-    )
-}
-
 fn late(f: Failure) -> bool
     ensures { result ≡ late f }
 {
-    match f {
-        Failure::Sec => false,
-        Failure::Cgc => true,
-        Failure::Nnc => true,
-        Failure::Adi => false,
-        Failure::Cfl => true,
-        Failure::Ssb => false,
-        Failure::Unn => false,
-        Failure::Los => false,
-        Failure::Sst => false,
-    }
+    matches!(f, Failure::Cgc | Failure::Nnc | Failure::Cfl)
 }
 
 // The last state in which a failure may be sent: 7 for the late ones, else 6.
@@ -165,178 +186,132 @@ fn last_state(f: Failure) -> u8
     }
 }
 
-fn fail_call(state: u8, flags: u8, f: Failure) -> u64
-    ensures { result ≡ command_way state flags (Command.FailCall f) }
+fn block(held: Held) -> u64
+    ensures { result ≡ command_way held.state held.flags Command.Block }
 {
-    let heading = codes::failure_heading(f);
-    let last = last_state(f);
-    within(
-        state,
-        flags,
-        names::IN_SEIZED,
-        last,
-        heading,
-        names::IN_FAILED,
+    if Flags::from(held.flags).own || held.state == names::AWAITING_RESET {
+        return refused(Refusal::CommandNotAllowed, held);
+    }
+    answers::sent(
+        names::BLO,
+        Held {
+            flags: marks::blocked(held.flags),
+            ..held
+        },
         names::IND_NOTHING,
-        names::COMMAND_NOT_ALLOWED,
     )
 }
 
-fn block(state: u8, flags: u8) -> u64
-    ensures { result ≡ command_way state flags Command.Block }
+fn unblock(held: Held) -> u64
+    ensures { result ≡ command_way held.state held.flags Command.Unblock }
 {
-    if circuit::either(marks::own(flags), state == names::AWAITING_RESET) {
-        answers::refused(names::COMMAND_NOT_ALLOWED, state, flags)
-    } else {
-        answers::sent(names::BLO, state, marks::blocked(flags), names::IND_NOTHING)
-    }
-}
-
-fn unblock(state: u8, flags: u8) -> u64
-    ensures { result ≡ command_way state flags Command.Unblock }
-{
-    if marks::own(flags) {
+    if Flags::from(held.flags).own {
         answers::sent(
             names::UBL,
-            state,
-            marks::unblocked(flags),
+            Held {
+                flags: marks::unblocked(held.flags),
+                ..held
+            },
             names::IND_NOTHING,
         )
     } else {
-        answers::refused(names::COMMAND_NOT_ALLOWED, state, flags)
+        refused(Refusal::CommandNotAllowed, held)
     }
 }
 
-fn restart() -> u64
-    ensures { result ≡ word 0 0 12 0 0x77 0 }
-{
-    answers::sent(
-        names::RSC,
-        names::AWAITING_RESET,
-        marks::NONE,
-        names::IND_NOTHING,
-    )
-}
-
-pub fn on_command(state: u8, flags: u8, k: Command) -> u64
-    ensures { result ≡ command_way state flags k }
+pub fn on_command(held: Held, k: Command) -> u64
+    ensures { result ≡ command_way held.state held.flags k }
 {
     match k {
-        Command::Seize => seize(state, flags),
-        Command::Release => release(state, flags),
-        Command::AddressComplete(t, free) => address_complete(state, flags, t, free),
-        Command::Answer(charging) => answer(state, flags, charging),
-        Command::ClearBack => clear_back(state, flags),
-        Command::ReAnswer => re_answer(state, flags),
-        Command::FailCall(f) => fail_call(state, flags, f),
-        Command::Block => block(state, flags),
-        Command::Unblock => unblock(state, flags),
-        Command::Restart => restart(),
+        Command::Seize => seize(held),
+        Command::Release => RELEASE.answer(held),
+        Command::AddressComplete(_, free) => Transition {
+            new: proceeding(free),
+            ..ADDRESS_COMPLETE
+        }
+        .answer(held),
+        Command::Answer(charging) => Transition {
+            heading: answer_heading(charging),
+            ..ANSWER
+        }
+        .answer(held),
+        Command::ClearBack => CLEAR_BACK.answer(held),
+        Command::ReAnswer => RE_ANSWER.answer(held),
+        Command::FailCall(f) => Transition {
+            high: last_state(f),
+            heading: codes::failure_heading(f),
+            ..FAIL_CALL
+        }
+        .answer(held),
+        Command::Block => block(held),
+        Command::Unblock => unblock(held),
+        Command::Restart => answers::sent(names::RSC, RESTARTED, names::IND_NOTHING),
     }
 }
 
-fn address_wait(state: u8, flags: u8) -> u64
-    ensures { result ≡ timer_way state flags Timer.AddressWait }
+fn answer_wait(held: Held) -> u64
+    ensures { result ≡ timer_way held.state held.flags Timer.AnswerWait }
 {
-    within(
-        state,
-        flags,
-        names::OUT_SEIZED,
-        names::OUT_SEIZED,
-        names::CLF,
-        names::AWAITING_RELEASE_GUARD,
-        names::IND_CALL_FAILED,
-        names::TIMER_NOT_RUNNING,
-    )
-}
-
-fn answer_wait(state: u8, flags: u8) -> u64
-    ensures { result ≡ timer_way state flags Timer.AnswerWait }
-{
-    if circuit::either(state == names::OUT_PROCEEDING, state == names::OUT_HUNG_UP) {
+    if matches!(held.state, names::OUT_PROCEEDING | names::OUT_HUNG_UP) {
         answers::sent(
             names::CLF,
-            names::AWAITING_RELEASE_GUARD,
-            flags,
+            Held {
+                state: names::AWAITING_RELEASE_GUARD,
+                ..held
+            },
             names::IND_CALL_FAILED,
         )
     } else {
-        answers::refused(names::TIMER_NOT_RUNNING, state, flags)
+        refused(Refusal::TimerNotRunning, held)
     }
 }
 
-fn incoming_hang_up(state: u8, flags: u8) -> u64
-    ensures { result ≡ timer_way state flags Timer.IncomingHangUp }
+fn repeat(held: Held) -> u64
+    ensures { result ≡ timer_way held.state held.flags Timer.Repeat }
 {
-    within(
-        state,
-        flags,
-        names::IN_HUNG_UP,
-        names::IN_HUNG_UP,
-        names::CFL,
-        names::IN_FAILED,
-        names::IND_NOTHING,
-        names::TIMER_NOT_RUNNING,
-    )
-}
-
-fn repeat(state: u8, flags: u8) -> u64
-    ensures { result ≡ timer_way state flags Timer.Repeat }
-{
-    if state == names::AWAITING_RELEASE_GUARD {
-        return answers::sent(names::CLF, state, flags, names::IND_NOTHING);
+    match held.state {
+        names::AWAITING_RELEASE_GUARD => answers::sent(names::CLF, held, names::IND_NOTHING),
+        names::IN_FAILED => answers::sent(names::CFL, held, names::IND_NOTHING),
+        names::AWAITING_RESET => answers::sent(names::RSC, held, names::IND_NOTHING),
+        _ => refused(Refusal::TimerNotRunning, held),
     }
-    if state == names::IN_FAILED {
-        return answers::sent(names::CFL, state, flags, names::IND_NOTHING);
-    }
-    if state == names::AWAITING_RESET {
-        return answers::sent(names::RSC, state, flags, names::IND_NOTHING);
-    }
-    answers::refused(names::TIMER_NOT_RUNNING, state, flags)
 }
 
 // In 5 and 11 what a restart does, in 12 RSC with the record unchanged.
-fn one_minute(state: u8, flags: u8) -> u64
-    ensures { result ≡ timer_way state flags Timer.OneMinute }
+fn one_minute(held: Held) -> u64
+    ensures { result ≡ timer_way held.state held.flags Timer.OneMinute }
 {
-    if circuit::either(
-        state == names::AWAITING_RELEASE_GUARD,
-        state == names::IN_FAILED,
-    ) {
-        return answers::sent(
-            names::RSC,
-            names::AWAITING_RESET,
-            marks::NONE,
-            names::IND_ALERT_MAINTENANCE,
-        );
+    match held.state {
+        names::AWAITING_RELEASE_GUARD | names::IN_FAILED => {
+            answers::sent(names::RSC, RESTARTED, names::IND_ALERT_MAINTENANCE)
+        }
+        names::AWAITING_RESET => answers::sent(names::RSC, held, names::IND_ALERT_MAINTENANCE),
+        _ => refused(Refusal::TimerNotRunning, held),
     }
-    if state == names::AWAITING_RESET {
-        return answers::sent(names::RSC, state, flags, names::IND_ALERT_MAINTENANCE);
-    }
-    answers::refused(names::TIMER_NOT_RUNNING, state, flags)
 }
 
-fn block_repeat(state: u8, flags: u8) -> u64
-    ensures { result ≡ timer_way state flags Timer.BlockRepeat }
+fn block_repeat(held: Held) -> u64
+    ensures { result ≡ timer_way held.state held.flags Timer.BlockRepeat }
 {
-    if marks::bla(flags) {
-        return answers::sent(names::BLO, state, flags, names::IND_NOTHING);
+    let flags = Flags::from(held.flags);
+    if flags.bla {
+        answers::sent(names::BLO, held, names::IND_NOTHING)
+    } else if flags.uba {
+        answers::sent(names::UBL, held, names::IND_NOTHING)
+    } else {
+        refused(Refusal::TimerNotRunning, held)
     }
-    if marks::uba(flags) {
-        return answers::sent(names::UBL, state, flags, names::IND_NOTHING);
-    }
-    answers::refused(names::TIMER_NOT_RUNNING, state, flags)
 }
 
-pub fn on_timer(state: u8, flags: u8, t: Timer) -> u64
-    ensures { result ≡ timer_way state flags t }
+pub fn on_timer(held: Held, t: Timer) -> u64
+    ensures { result ≡ timer_way held.state held.flags t }
 {
     match t {
-        Timer::AddressWait => address_wait(state, flags),
-        Timer::AnswerWait => answer_wait(state, flags),
-        Timer::IncomingHangUp => incoming_hang_up(state, flags),
-        Timer::Repeat => repeat(state, flags),
-        Timer::OneMinute => one_minute(state, flags),
-        Timer::BlockRepeat => block_repeat(state, flags),
+        Timer::AddressWait => ADDRESS_WAIT.answer(held),
+        Timer::AnswerWait => answer_wait(held),
+        Timer::IncomingHangUp => INCOMING_HANG_UP.answer(held),
+        Timer::Repeat => repeat(held),
+        Timer::OneMinute => one_minute(held),
+        Timer::BlockRepeat => block_repeat(held),
     }
 }

@@ -23,7 +23,7 @@ pub struct Choice {
 fn free(at: Stored) -> bool
     ensures { result ≡ free at.held.state at.held.flags }
 {
-    at.held.state == names::IDLE && !marks::far(at.held.flags)
+    at.held.state == names::IDLE && !marks::Flags::from(at.held.flags).far
 }
 
 // Whether all records from one on are allowed.

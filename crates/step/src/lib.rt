@@ -1,4 +1,4 @@
-// One event on one circuit, by value: its record as two octets, behind refusal 12. Calls and marks are put together here.
+// One event on one circuit, by value: what is held of it as two octets, behind refusal 12. Calls and marks are put together here.
 #![tactic(auto)]
 
 ghost use Rattle.std.specs.Prelude.{◌≡◌};
@@ -8,40 +8,25 @@ ghost use Rattle.step.specs.Way.{answer_to};
 ghost use Rattle.step.specs.Way.{is_iam, marks_part, together, behind_marks, signal_way, event_way, found_way};
 
 use calls::Call;
-use circuit::{Event, Signal};
-use codes::Found;
-use marks::Marked;
+use circuit::{Event, Held, Signal};
+use codes::Numbers;
+use marks::{Flags, Marked};
+use names::Refusal;
 
 fn is_iam(s: Signal) -> bool
     ensures { result ≡ is_iam s }
 {
-    match s {
-        Signal::Iam => true,
-        Signal::Acm(_) => false,
-        Signal::Anc => false,
-        Signal::Ann => false,
-        Signal::Cbk => false,
-        Signal::Clf => false,
-        Signal::Ran => false,
-        Signal::Rlg => false,
-        Signal::Blo => false,
-        Signal::Bla => false,
-        Signal::Ubl => false,
-        Signal::Uba => false,
-        Signal::Rsc => false,
-        Signal::Fail(_) => false,
-    }
+    matches!(s, Signal::Iam)
 }
 
 // Own block keeps an IAM out of an idle circuit; every other signal does to the marks what it does in any state.
-fn marks_part(state: u8, flags: u8, s: Signal) -> Marked
-    ensures { result ≡ marks_part state flags s }
+fn marks_part(held: Held, s: Signal) -> Marked
+    ensures { result ≡ marks_part held.state held.flags s }
 {
-    let blocked = circuit::both(state == names::IDLE, marks::own(flags));
-    if circuit::both(is_iam(s), blocked) {
-        marks::kept_out(flags)
+    if is_iam(s) && held.state == names::IDLE && Flags::from(held.flags).own {
+        marks::kept_out(held.flags)
     } else {
-        marks::on_signal(flags, s)
+        marks::on_signal(held.flags, s)
     }
 }
 
@@ -49,10 +34,11 @@ fn marks_part(state: u8, flags: u8, s: Signal) -> Marked
 fn together(m: Marked, c: Call) -> u64
     ensures { result ≡ together m c }
 {
+    let held = Held { state: c.state, flags: m.flags };
     if m.sends == names::NO_SIGNAL {
-        answers::sent(c.sends, c.state, m.flags, c.ind)
+        answers::sent(c.sends, held, c.ind)
     } else {
-        answers::answer(names::ACCEPTED, c.ind, c.state, m.flags, m.sends, c.sends)
+        answers::answer(names::ACCEPTED, c.ind, held, m.sends, c.sends)
     }
 }
 
@@ -61,44 +47,38 @@ fn behind_marks(con: bool, state: u8, s: Signal, m: Marked) -> u64
     ensures { result ≡ behind_marks con state s m }
 {
     if m.stops {
-        return answers::sent(m.sends, state, m.flags, names::IND_DISCARDED);
+        return answers::sent(m.sends, Held { state, flags: m.flags }, names::IND_DISCARDED);
     }
     together(m, calls::on_signal(con, state, s))
 }
 
-fn on_signal(con: bool, state: u8, flags: u8, s: Signal) -> u64
-    ensures { result ≡ signal_way con state flags s }
-{
-    behind_marks(con, state, s, marks_part(state, flags, s))
-}
-
-fn on_event(con: bool, state: u8, flags: u8, e: Event) -> u64
-    ensures { result ≡ event_way con state flags e }
+fn on_event(con: bool, held: Held, e: Event) -> u64
+    ensures { result ≡ event_way con held.state held.flags e }
 {
     match e {
-        Event::Arrives(s) => on_signal(con, state, flags, s),
-        Event::Ordered(k) => commands::on_command(state, flags, k),
-        Event::RunsOut(t) => commands::on_timer(state, flags, t),
+        Event::Arrives(s) => behind_marks(con, held.state, s, marks_part(held, s)),
+        Event::Ordered(k) => commands::on_command(held, k),
+        Event::RunsOut(t) => commands::on_timer(held, t),
     }
 }
 
-fn on_found(con: bool, state: u8, flags: u8, f: Found) -> u64
-    ensures { result ≡ found_way con state flags f }
+fn on_found(con: bool, held: Held, event: Option<Event>) -> u64
+    ensures { result ≡ found_way con held.state held.flags event }
 {
-    match f {
-        Found::Is(e) => on_event(con, state, flags, e),
-        Found::Missing => answers::refused(names::NO_SUCH_EVENT, state, flags),
-    }
+    let Some(e) = event else {
+        return answers::refused(u8::from(Refusal::NoSuchEvent), held);
+    };
+    on_event(con, held, e)
 }
 
-// What an event, given by its kind, code and detail, answers on a record, at the end that controls the circuit (con) or at the other. The event
-// is read behind refusal 12, at the place where it is used.
-pub fn step(con: bool, state: u8, flags: u8, kind: u32, code: u32, detail: u32) -> u64
-    ensures packs { result ≡ packed (answer_to con state flags (event_of kind code detail)) }
-    ensures unpacks { Unpacked result (answer_to con state flags (event_of kind code detail)) }
+// What an event, given by its numbers, answers on a record, at the end that controls the circuit (con) or at the other. The event is read behind
+// refusal 12, at the place where it is used.
+pub fn step(con: bool, held: Held, n: Numbers) -> u64
+    ensures packs { result ≡ packed (answer_to con held.state held.flags (event_of n.kind n.code n.detail)) }
+    ensures unpacks { Unpacked result (answer_to con held.state held.flags (event_of n.kind n.code n.detail)) }
 {
-    if !layout::allowed(state, flags) {
-        return answers::refused(names::BAD_RECORD, state, flags);
+    if !layout::allowed(held) {
+        return answers::refused(u8::from(Refusal::BadRecord), held);
     }
-    on_found(con, state, flags, codes::event_of(kind, code, detail))
+    on_found(con, held, codes::event_of(n))
 }
