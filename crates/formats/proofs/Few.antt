@@ -3,38 +3,39 @@
 use mathlib.Core.Path.{◌≡◌, refl, sym, ap, ◌∙◌}
 use mathlib.Core.Bool.{Bool, true, false, cond, not, ◌&&◌, ◌||◌, and-true, and-false}
 use mathlib.Core.List.{List, [], ◌∷◌}
-use Prim.Native.Nat.{ℕ, suc, ◌+◌, ◌%◌, ◌<◌, ◌≤◌}
-use native.Mathlib.Nat.{add-zero}
-use native.Mathlib.Numerals.{add-one}
+use Prim.Native.Nat.{ℕ, suc, ◌%◌, ◌<◌, ◌≤◌, min}
 use native.Mathlib.Omega.{arith}
-use borrow.Author.Tests.{lt-ltb, le-ltb, eq-eqb, ne_eqb}
+use borrow.Author.Tests.{ltb-true, ltb-false, lt-ltb, le-ltb, eq-eqb, ne_eqb}
 use lib.Dec.{eqb, ltb}
-use lib.ListN.{length, get_or, drop, drop_of_length-le}
-use lib.Seq.{drop-cons}
+use lib.ListN.{length, get_or, take}
+use Rattle.std.proofs.lemmas.List.{length-take}
+use Rattle.std.specs.List.{filter}
 use Rattle.formats.specs.Octets.{international, besides_st, to_operator, short}
 
--- A LOOP OVER THE SIGNALS
+-- FEWER THAN FOUR
 
-module _ (s : List ℕ) (n i : ℕ) (p : besides_st s ≡ n + besides_st (drop i s)) where
-  abbrev one : Bool → ℕ
-  one st = cond st (besides_st (drop (i + 1) s)) (suc (besides_st (drop (i + 1) s)))
+others : (s : List ℕ) → length (filter (λ (x : ℕ). not (eqb x 15)) s) ≡ besides_st s
+others [] = refl
+others (code ∷ rest) = go (eqb code 15) (others rest)
+  where
+    go : (st : Bool) → length (filter (λ (x : ℕ). not (eqb x 15)) rest) ≡ besides_st rest
+        → length (cond (not st) (code ∷ filter (λ (x : ℕ). not (eqb x 15)) rest) (filter (λ (x : ℕ). not (eqb x 15)) rest)) ≡ cond st (besides_st rest) (suc (besides_st rest))
+    go true e = e
+    go false e = ap suc e
 
-  next : i < length s → besides_st (drop i s) ≡ one (eqb (get_or s i 0) 15)
-  next h = rw (drop-cons s i 0 h, add-one i)
+-- it is enough to look at the first four
+first_four : (n : ℕ) → ltb (min 4 n) 4 ≡ ltb n 4
+first_four n = go (ltb n 4) refl
+  where
+    go : (b : Bool) → ltb n 4 ≡ b → ltb (min 4 n) 4 ≡ ltb n 4
+    go true e = let h : n < 4 = ltb-true _ _ e in lt-ltb _ _ (omega arith) ∙ sym e
+    go false e = let h : 4 ≤ n = ltb-false _ _ e in le-ltb _ _ (omega arith) ∙ sym e
 
-  -- it passes ST, or counts one more
-  pub passes_st : i < length s → get_or s i 0 ≡ 15 → besides_st s ≡ n + besides_st (drop (i + 1) s)
-  passes_st h e = p ∙ ap (λ (k : ℕ). n + k) (next h ∙ ap one (eq-eqb _ _ e))
-
-  pub counts_one : i < length s → (get_or s i 0 ≡ 15 → ⊥) → besides_st s ≡ n + 1 + besides_st (drop (i + 1) s)
-  counts_one h e = let q : besides_st (drop i s) ≡ suc (besides_st (drop (i + 1) s)) = next h ∙ ap one (ne_eqb _ _ e) in omega arith
-
-  -- and has counted enough, or all
-  pub enough : 4 ≤ n → ltb n 4 ≡ ltb (besides_st s) 4
-  enough h = le-ltb _ _ h ∙ sym (le-ltb (besides_st s) 4 (omega arith))
-
-  pub counted_all : length s ≤ i → ltb n 4 ≡ ltb (besides_st s) 4
-  counted_all h = ap (λ (k : ℕ). ltb k 4) (sym (p ∙ ap (λ (l : List ℕ). n + besides_st l) (drop_of_length-le s h) ∙ add-zero n))
+pub four : (s : List ℕ) → ltb (length (take 4 (filter (λ (x : ℕ). not (eqb x 15)) s))) 4 ≡ ltb (besides_st s) 4
+four s =
+    ap (λ (n : ℕ). ltb n 4) (length-take 4 (filter (λ (x : ℕ). not (eqb x 15)) s))
+    ∙ first_four (length (filter (λ (x : ℕ). not (eqb x 15)) s))
+    ∙ ap (λ (n : ℕ). ltb n 4) (others s)
 
 -- THE FIRST SIGNAL
 

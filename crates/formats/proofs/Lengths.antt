@@ -1,11 +1,12 @@
 -- How long a message is, by its heading: the cases of `fixed_length`.
 -- Assumes nothing.
-use Rattle.std.specs.Prelude.{Some}
+use Rattle.std.specs.Prelude.{Option, Some, None}
+use Rattle.std.proofs.lemmas.Option.{none-some, same_Some}
 use mathlib.Core.Path.{◌≡◌, refl, sym, ap, ◌∙◌, subst}
 use mathlib.Core.Bool.{Bool, true, false, cond}
 use mathlib.Core.List.{List, [], ◌∷◌}
 use Prim.Native.Nat.{ℕ, ◌/◌, ◌%◌, ◌^◌, ◌<◌, ◌≤◌}
-use borrow.Author.Tests.{ne_eqb, eqb-true}
+use borrow.Author.Tests.{eqb-true}
 use lib.Dec.{T, eqb, lit<}
 use Rattle.circuit.specs.declared.Failure.{Failure}
 use Rattle.circuit.specs.declared.Failure.TheVariants.{Sec, Cgc, Nnc, Adi, Cfl, Ssb, Unn, Los, Sst}
@@ -17,14 +18,6 @@ use Rattle.formats.specs.Way.{group_of}
 use Rattle.formats.specs.Messages.{is_known, listed, fixed_length}
 use native.Mathlib.Omega.{arith}
 
-pub six : (h : ℕ) → (h ≡ 0x11 → ⊥) → (h ≡ 0x14 → ⊥) → listed h ≡ true → 6 ≡ cond (listed h) (fixed_length h) 0
-six h a b e =
-    let f : fixed_length h ≡ 6 = rw (ne_eqb h 0x11 a, ne_eqb h 0x14 b) in
-    sym (ap (λ (t : Bool). cond t (fixed_length h) 0) e ∙ f)
-
-pub none : (h : ℕ) → listed h ≡ false → 0 ≡ cond (listed h) (fixed_length h) 0
-none h e = sym (ap (λ (t : Bool). cond t (fixed_length h) 0) e)
-
 -- the headings as the program has them, by H0 the set of H1
 abbrev in_set : ℕ → Bool
 in_set h = eqb (group_of (h % 16) / 2 ^ (h / 16) % 2) 1
@@ -32,60 +25,28 @@ in_set h = eqb (group_of (h % 16) / 2 ^ (h / 16) % 2) 1
 pub by_set : (h : ℕ) → h ≤ 255 → in_set h ≡ listed h
 by_set h low = alike_same _ _ (at_below 256 (λ h. alike (in_set h) (listed h)) tt h (omega arith))
 
-pub large : (h : ℕ) → 255 < h → listed h ≡ false
-large h l =
-    simp (
-      ne_eqb h 0x11 (λ e. omega arith),
-      ne_eqb h 0x14 (λ e. omega arith),
-      ne_eqb h 0x16 (λ e. omega arith),
-      ne_eqb h 0x26 (λ e. omega arith),
-      ne_eqb h 0x36 (λ e. omega arith),
-      ne_eqb h 0x46 (λ e. omega arith),
-      ne_eqb h 0x56 (λ e. omega arith),
-      ne_eqb h 0x17 (λ e. omega arith),
-      ne_eqb h 0x27 (λ e. omega arith),
-      ne_eqb h 0x37 (λ e. omega arith),
-      ne_eqb h 0x47 (λ e. omega arith),
-      ne_eqb h 0x57 (λ e. omega arith),
-      ne_eqb h 0x77 (λ e. omega arith),
-      ne_eqb h 0x15 (λ e. omega arith),
-      ne_eqb h 0x25 (λ e. omega arith),
-      ne_eqb h 0x35 (λ e. omega arith),
-      ne_eqb h 0x45 (λ e. omega arith),
-      ne_eqb h 0x55 (λ e. omega arith),
-      ne_eqb h 0x65 (λ e. omega arith),
-      ne_eqb h 0x75 (λ e. omega arith),
-      ne_eqb h 0x85 (λ e. omega arith),
-      ne_eqb h 0x95 (λ e. omega arith),
-    )
-
 -- every message has label and heading
 pub six_or_more : (h : ℕ) → 6 ≤ fixed_length h
 six_or_more h = omega arith
 
--- a heading of no length is one that is not listed
-positive : (h : ℕ) → fixed_length h ≡ 0 → ⊥
-positive h e = let l = six_or_more h in omega arith
+-- a heading of no length is one that is not listed, and a heading with a length is listed
+module _ (h : ℕ) where
+  abbrev length_if : Bool → Option ℕ
+  length_if b = cond b (Some (fixed_length h)) None
 
-pub no_length : (h : ℕ) → cond (listed h) (fixed_length h) 0 ≡ 0 → listed h ≡ false
-no_length h e = go (listed h) refl
-  where
-    go : (b : Bool) → listed h ≡ b → listed h ≡ false
-    go true p = absurd (positive h (sym (ap (λ (t : Bool). cond t (fixed_length h) 0) p) ∙ e))
-    go false p = p
+  pub no_length : length_if (listed h) ≡ None → listed h ≡ false
+  no_length e = go (listed h) e
+    where
+      go : (b : Bool) → length_if b ≡ None → b ≡ false
+      go true q = absurd (none-some _ (sym q))
+      go false q = refl
 
-pub a_length : (h : ℕ) → (cond (listed h) (fixed_length h) 0 ≡ 0 → ⊥) → listed h ≡ true
-a_length h n = go (listed h) refl
-  where
-    go : (b : Bool) → listed h ≡ b → listed h ≡ true
-    go true p = p
-    go false p = absurd (n (ap (λ (t : Bool). cond t (fixed_length h) 0) p))
-
-pub the_length : (h n : ℕ) → n ≡ cond (listed h) (fixed_length h) 0 → listed h ≡ true → n ≡ fixed_length h
-the_length h n e p = e ∙ ap (λ (t : Bool). cond t (fixed_length h) 0) p
-
-pub acm_length : (h n : ℕ) → h ≡ 0x14 → n ≡ cond (listed h) (fixed_length h) 0 → n ≡ 7
-acm_length h n e is = is ∙ ap (λ (k : ℕ). cond (listed k) (fixed_length k) 0) e
+  pub a_length : (n : ℕ) → length_if (listed h) ≡ Some n → (listed h ≡ true) × (n ≡ fixed_length h)
+  a_length n e = go (listed h) e
+    where
+      go : (b : Bool) → length_if b ≡ Some n → (b ≡ true) × (n ≡ fixed_length h)
+      go true q = (refl, sym (same_Some _ _ q))
+      go false q = absurd (none-some _ q)
 
 -- a heading that is listed is an octet
 failure_octet : (f : Failure) → failure_heading f < 256

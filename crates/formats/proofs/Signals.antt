@@ -1,7 +1,7 @@
 -- Address signals one after the other: what a loop over them has seen.
 -- Assumes nothing.
 use mathlib.Core.Path.{◌≡◌, refl, sym, ap, ap₂, ◌∙◌}
-use mathlib.Core.Bool.{Bool, true, false, cond, ◌||◌}
+use mathlib.Core.Bool.{Bool, true, false, cond, ◌||◌, or-true}
 use mathlib.Core.List.{List, [], ◌∷◌}
 use Prim.Native.Nat.compare
 use Prim.Native.Nat.{ℕ, zero, suc, ◌+◌, ◌-◌, ◌<◌, ◌≤◌}
@@ -12,7 +12,9 @@ use borrow.Author.Tests.{ltb-true, ltb-false, lt-ltb, le-ltb}
 use lib.Dec.{ltb, is_le}
 use lib.ListN.{length, get_or, drop, length-drop, drop_of_length-le}
 use lib.Seq.{drop-cons}
-use Rattle.formats.specs.Octets.{some_signal, before_signal}
+use Rattle.std.specs.Bool.{MatchBool}
+use Rattle.std.specs.List.{AllWithin, HoldsAt}
+use Rattle.formats.specs.Octets.{some_signal, before_signal, above_fifteen}
 
 more : (s : List ℕ) (i : ℕ) → ltb 0 (length (drop (suc i) s)) ≡ ltb (i + 1) (length s)
 more s i = ap (ltb 0) (length-drop (suc i) s) ∙ go (ltb (i + 1) (length s)) refl
@@ -76,6 +78,13 @@ none_before test (c ∷ rest) j l = go (none_before test rest) (test c (ltb 0 (l
     go more false e zero l = ap (test c) (shifted 0 (length rest)) ∙ e
     go more false e (suc j) l = ap (test (get_or rest j 0)) (shifted (suc j) (length rest)) ∙ more j (omega arith)
 
+pub some_fits : (test : ℕ → Bool → Bool) (s : List ℕ) (j : ℕ) → j < length s → test (get_or s j 0) (ltb (suc j) (length s)) ≡ true → some_signal test s ≡ true
+some_fits test [] j l e = absurd (omega arith)
+some_fits test (c ∷ rest) zero l e = ap (λ (b : Bool). b || some_signal test rest) (ap (test c) (sym (shifted 0 (length rest))) ∙ e)
+some_fits test (c ∷ rest) (suc j) l e =
+    ap (λ (b : Bool). test c (ltb 0 (length rest)) || b) (some_fits test rest j (omega arith) (ap (test (get_or rest j 0)) (sym (shifted (suc j) (length rest))) ∙ e))
+    ∙ or-true (test c (ltb 0 (length rest)))
+
 -- some signal is one that fewer than all stand before
 pub some_before : (test : ℕ → Bool → Bool) (s : List ℕ) → some_signal test s ≡ ltb (before_signal test s) (length s)
 some_before test [] = refl
@@ -101,3 +110,9 @@ first_fits test (c ∷ rest) l = go (first_fits test rest) (test c (ltb 0 (lengt
         → (b : Bool) → test c (ltb 0 (length rest)) ≡ b → place b < suc (length rest) → test (get_or (c ∷ rest) (place b) 0) (ltb (suc (place b)) (suc (length rest))) ≡ true
     go more true e l = ap (test c) (shifted 0 (length rest)) ∙ e
     go more false e l = ap (test (get_or rest (before_signal test rest) 0)) (shifted (suc (before_signal test rest)) (length rest)) ∙ more (omega arith)
+
+-- what an `any` over the signals has found
+pub above : (s : List ℕ) (r : Bool) → MatchBool r ((k : ℕ) × (k < length s) × HoldsAt (λ (x : ℕ). 15 < x) s k) (AllWithin (λ (x : ℕ). x ≤ 15) s 0 (length s))
+    → r ≡ above_fifteen s
+above s true (k, l, h) = sym (some_fits (λ code more. ltb 15 code) s k l (lt-ltb _ _ (h 0)))
+above s false h = sym (none_fits (λ code more. ltb 15 code) s (λ j l. le-ltb _ _ (h j 0 (omega arith) l)))

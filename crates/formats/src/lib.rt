@@ -2,7 +2,7 @@
 // by its heading, which address signals are refused, and which numbers are short.
 #![tactic(auto)]
 
-ghost use Rattle.std.specs.Prelude.{◌≡◌, cond, ltb};
+ghost use Rattle.std.specs.Prelude.{◌≡◌, cond, ltb, Some, None};
 ghost use Rattle.formats.specs.Octets.{bad_code, bad_codes, first_bad, above_fifteen, bad_address, besides_st, to_operator, short};
 ghost use Rattle.formats.specs.Messages.{fixed_length, listed};
 ghost use Rattle.formats.specs.Way.{group_of};
@@ -77,129 +77,88 @@ fn group_of(h0: u32) -> u32
 fn listed(heading: u32) -> bool
     ensures { result ≡ listed heading }
 {
-    if 255 < heading {
-        return false;
-    }
-    (group_of(heading % 16) >> (heading / 16)) % 2 == 1
+    heading < 256 && (group_of(heading % 16) >> (heading / 16)) % 2 == 1
 }
 
-// The octets that a message with the heading has before its address signals, 0 where no signal has the heading.
-pub fn fixed_length(heading: u32) -> usize
-    ensures { result ≡ cond (listed heading) (fixed_length heading) 0 }
+// The octets that a message with the heading has before its address signals, if a signal has it.
+pub fn fixed_length(heading: u32) -> Option<usize>
+    ensures { result ≡ cond (listed heading) (Some (fixed_length heading)) None }
 {
-    if heading == IAM {
-        return IAM_OCTETS;
+    match heading {
+        IAM => Some(IAM_OCTETS),
+        ACM => Some(ACM_OCTETS),
+        _ => listed(heading).then_some(PLAIN_OCTETS),
     }
-    if heading == ACM {
-        return ACM_OCTETS;
-    }
-    if listed(heading) {
-        return PLAIN_OCTETS;
-    }
-    0
 }
 
 // Whether a code is spare, or is ST where more signals follow.
 fn bad_code(code: u8, more: bool) -> bool
     ensures { result ≡ bad_code code more }
 {
-    if code == ST {
-        return more;
+    match code {
+        ST => more,
+        10 | 13 | 14 => true,
+        _ => false,
     }
-    if code == 10 {
-        return true;
-    }
-    if code == 13 {
-        return true;
-    }
-    code == 14
 }
 
-// How many address signals stand before the first that is refused; all of them where none is.
-pub fn first_bad(address: &[u8]) -> usize
-    ensures { result ≡ first_bad address.now }
+// How many address signals stand before the first that is refused, if one is.
+pub fn first_bad(address: &[u8]) -> Option<usize>
+    ensures { result ≡ cond (bad_codes address.now) (Some (first_bad address.now)) None }
 {
-    let mut i = 0;
-    while i < address.len() {
-        if bad_code(address[i], i + 1 < address.len()) {
-            return i;
+    for (i, &code) in address.iter().enumerate() {
+        if bad_code(code, i + 1 < address.len()) {
+            return Some(i);
         }
-        i += 1;
     }
-    i
+    None
 }
 
 // Whether some address signal is refused.
 pub fn bad_codes(address: &[u8]) -> bool
     ensures { result ≡ bad_codes address.now }
 {
-    first_bad(address) < address.len()
+    first_bad(address).is_some()
 }
 
 // Whether an address begins with an operator's code.
 fn to_operator(address: &[u8]) -> bool
     ensures { result ≡ to_operator address.now }
 {
-    if address.len() == 0 {
-        return false;
-    }
-    if address[0] == CODE_11 {
-        return true;
-    }
-    address[0] == CODE_12
+    matches!(address.first(), Some(&(CODE_11 | CODE_12)))
 }
 
 // Whether an address has fewer than four signals besides ST. Those behind the fourth are not looked at.
 fn few_signals(address: &[u8]) -> bool
     ensures { result ≡ ltb (besides_st address.now) 4 }
 {
-    let mut n = 0;
-    let mut i = 0;
-    while i < address.len() && n < ENOUGH_SIGNALS {
-        if address[i] != ST {
-            n += 1;
-        }
-        i += 1;
-    }
-    n < ENOUGH_SIGNALS
+    address
+        .iter()
+        .filter(|&&code| code != ST)
+        .take(ENOUGH_SIGNALS)
+        .count()
+        < ENOUGH_SIGNALS
 }
 
 // Whether an international number is short.
+#[tactic(auto, unfolding(crate::specs::Octets::short))]
 pub fn short(indicators: u32, address: &[u8]) -> bool
     ensures { result ≡ short indicators address.now }
 {
-    if indicators % NATURES != INTERNATIONAL {
-        return false;
-    }
-    if to_operator(address) {
-        return false;
-    }
-    few_signals(address)
+    indicators % NATURES == INTERNATIONAL && (few_signals(address) && !to_operator(address))
 }
 
 // Whether an address signal is above 15.
 pub fn above_fifteen(address: &[u8]) -> bool
     ensures { result ≡ above_fifteen address.now }
 {
-    let mut i = 0;
-    while i < address.len() {
-        if LAST_CODE < address[i] {
-            return true;
-        }
-        i += 1;
-    }
-    false
+    address.iter().any(|&code| LAST_CODE < code)
 }
 
 // Whether an address has no signal or more than 15, or one of them is refused.
+#[tactic(auto, unfolding(crate::specs::Octets::bad_address))]
 pub fn bad_address(address: &[u8]) -> bool
     ensures { result ≡ bad_address address.now }
 {
-    if address.len() == 0 {
-        return true;
-    }
-    if MOST_CODES < address.len() {
-        return true;
-    }
-    bad_codes(address)
+    address.is_empty() || MOST_CODES < address.len() || bad_codes(address)
 }

@@ -11,7 +11,7 @@ use lib.ListN.{length, get_or, take, drop, length-drop, length-append}
 use lib.Seq.{length-take-le, take_at, get_or-drop}
 use Rattle.circuit.specs.Groups.{bad_group}
 use Rattle.circuit.specs.declared.Cic.{Cic}
-use Rattle.reader.specs.declared.Fields.{Fields}
+use Rattle.reader.specs.Told.{Told, no_codes, refused}
 use Rattle.formats.specs.Format.{Format, octets_for, field_octet, signal_octet, CATEGORY, INDICATORS, COUNT, above, get_each, content_in}
 use Rattle.formats.specs.Messages.{iam_format, among_own, own_formats, headed, format_of, has_signals, fixed_length, listed, is_iam, is_acm, half}
 use Rattle.formats.specs.Octets.{bad_code, bad_codes, first_bad, short}
@@ -23,13 +23,13 @@ use Rattle.formats.proofs.Lengths.{no_length, a_length, the_length}
 use Rattle.words.specs.Octets.{number_of, over}
 use Rattle.reader.specs.Faults.{fault}
 use Rattle.reader.specs.Places.{cic_in, heading_in, field_by, signals_by}
-use Rattle.reader.specs.Reading.{elsewhere, unfit, stray_octet, body_faults, no_codes, refused, fields_from, fields_in, judged, fields_of}
-use Rattle.reader.specs.Way.{body_of, plain_fields, iam_fields}
+use Rattle.reader.specs.Reading.{elsewhere, unfit, stray_octet, body_faults, fields_from, fields_in, judged, fields_of}
+use Rattle.reader.specs.Way.{body_of}
 use Rattle.reader.proofs.Signals.{length_halves}
 
 -- the reader's last seven tests, and the places that are not the same for every message
-module _ (f : Fields) (len counts spoils : ℕ) (b₀ b₁ b₂ b₃ b₄ b₅ b₆ : Bool) where
-  abbrev tested : Fields
+module _ (f : Told) (len counts spoils : ℕ) (b₀ b₁ b₂ b₃ b₄ b₅ b₆ : Bool) where
+  abbrev tested : Told
   tested = judged (fault 9 b₀ 5 ∷ fault 7 b₁ len ∷ fault 10 b₂ counts ∷ fault 7 b₃ len ∷ fault 10 b₄ spoils ∷ fault 17 b₅ counts ∷ fault 2 b₆ 3 ∷ []) f
 
   at0 : b₀ ≡ true → tested ≡ refused 9 5
@@ -307,7 +307,7 @@ module _ (records : ℕ) (xs : List ℕ) (w : ℕ) (codes : List ℕ) (k : Spelt
 
 -- the first three tests
 module _ (own far records : ℕ) (xs : List ℕ) where
-  abbrev begun : Bool → Bool → Bool → Fields
+  abbrev begun : Bool → Bool → Bool → Told
   begun b₀ b₁ b₂ = judged (fault 1 b₀ 0 ∷ fault 7 b₁ (length xs) ∷ fault 8 b₂ (stray_octet own xs) ∷ body_faults records (heading_in xs) xs) (fields_in (heading_in xs) xs)
 
   pub bad_group_lem : bad_group own far records ≡ true → fields_of own far records xs ≡ refused 1 0

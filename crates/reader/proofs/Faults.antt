@@ -9,12 +9,12 @@ use lib.Dec.{T}
 use lib.ListN.{length}
 use Rattle.circuit.specs.Refusals.{first_rule, Clear}
 use Rattle.circuit.proofs.Refusals.{clear}
-use Rattle.reader.specs.declared.Fields.{Fields}
+use Rattle.reader.specs.Told.{Told, refused}
 use Rattle.reader.specs.Faults.{Fault, fault, rules_of, place_of}
 use Rattle.reader.specs.Places.{heading_in}
-use Rattle.reader.specs.Reading.{read_faults, read_rules, refused, fields_in, judged, fields_of}
+use Rattle.reader.specs.Reading.{read_faults, read_rules, fields_in, judged, fields_of}
 
-module _ (f : Fields) where
+module _ (f : Told) where
   gives_refusal : f.refusal ≡ 0 → (faults : List Fault) → (judged faults f).refusal ≡ first_rule (rules_of faults)
   gives_refusal z [] = z
   gives_refusal z (fault n true place ∷ faults) = refl
@@ -62,11 +62,11 @@ like (fault n true place ∷ faults) (fault k b other ∷ others) e = e.1 refl �
 like (fault n false place ∷ faults) (fault k b other ∷ others) e = like faults others e.2 ∙ ap (λ (t : Bool). cond t other (place_of others)) e.0
 
 -- What holds for each fault, found where none before it is, and for none, holds for the answer.
-abbrev pub Cases : (Fields → Type 0) → List Fault → Fields → Type 0
+abbrev pub Cases : (Told → Type 0) → List Fault → Told → Type 0
 Cases P [] f = P f
 Cases P (fault n found place ∷ faults) f = (found ≡ true → P (refused n place)) × (found ≡ false → Cases P faults f)
 
-pub cases : (P : Fields → Type 0) (faults : List Fault) (f : Fields) → Cases P faults f → P (judged faults f)
+pub cases : (P : Told → Type 0) (faults : List Fault) (f : Told) → Cases P faults f → P (judged faults f)
 cases P [] f c = c
 cases P (fault n true place ∷ faults) f c = c.0 refl
 cases P (fault n false place ∷ faults) f c = cases P faults f (c.1 refl)
@@ -112,5 +112,5 @@ module _ (own far records : ℕ) (xs : List ℕ) where
     )),
   )
     where
-      Lengthy : Fields → Type 0
+      Lengthy : Told → Type 0
       Lengthy f = f.refusal ≡ 7 → f.place ≡ length xs

@@ -13,7 +13,7 @@ use lib.Seq.{get_or-drop, paste, paste-suc, length-take-le}
 use Rattle.formats.specs.Way.{halves}
 use Rattle.words.specs.Octets.{over}
 use Rattle.formats.specs.Messages.{half}
-use Rattle.reader.specs.Reading.{no_codes}
+use Rattle.reader.specs.Told.{no_codes}
 
 -- which half of which octet a signal is
 pub half_at : (os : List ℕ) (i : ℕ) → i / 2 < length os

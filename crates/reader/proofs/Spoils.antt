@@ -14,7 +14,7 @@ use lib.Seq.{get_or-take}
 use Rattle.circuit.proofs.Every.{both_hold}
 use Rattle.circuit.specs.Refusals.{Clear}
 use Rattle.circuit.proofs.Refusals.{clear}
-use Rattle.reader.specs.declared.Fields.{Fields}
+use Rattle.reader.specs.Told.{Told}
 use Rattle.words.specs.Octets.{number_of}
 use Rattle.formats.specs.Format.{INDICATORS, COUNT, signal_octet}
 use Rattle.formats.specs.Messages.{format_of, has_signals, listed}
@@ -99,7 +99,7 @@ module _ (own far records : ℕ) (xs : List ℕ) (octets : (i : ℕ) → get_or 
   Unread p = (theirs : ℕ) (ys : List ℕ) → ((i : ℕ) → get_or ys i 0 < 256) → take (suc p) ys ≡ take (suc p) xs → (fields_of own far theirs ys).refusal ≡ 0 → ⊥
 
   -- of the refusals that the heading or the address meets
-  abbrev Spoils : Fields → Type 0
+  abbrev Spoils : Told → Type 0
   Spoils f = (eqb f.refusal 9 || eqb f.refusal 10) ≡ true → Unread f.place
 
   other : {P : Type 0} → false ≡ true → P

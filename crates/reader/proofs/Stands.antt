@@ -14,7 +14,7 @@ use Rattle.circuit.proofs.Every.{both_hold}
 use Rattle.circuit.specs.Groups.{bad_group}
 use Rattle.circuit.proofs.Groups.{in_range, turned}
 use Rattle.circuit.proofs.Refusals.{none_given}
-use Rattle.reader.specs.declared.Fields.{Fields}
+use Rattle.reader.specs.Told.{Told, refused}
 use Rattle.words.specs.Octets.{number_of}
 use Rattle.formats.specs.Format.{INDICATORS, COUNT, octets_for, field_octet, signal_octet}
 use Rattle.formats.specs.Messages.{format_of, half, has_signals}
@@ -24,7 +24,7 @@ use Rattle.formats.proofs.Places.{dpc_there, opc_there, heading_there}
 use Rattle.formats.proofs.Few.{exempt, by_eleven, long_enough, none_is_st, same_first}
 use Rattle.formats.proofs.Signals.{none_fits, none_before, some_before}
 use Rattle.reader.specs.Places.{dpc_in, cic_in, heading_in, field_by, signals_by}
-use Rattle.reader.specs.Reading.{elsewhere, unfit, stray_octet, read_faults, read_rules, refused, fields_in, fields_of}
+use Rattle.reader.specs.Reading.{elsewhere, unfit, stray_octet, read_faults, read_rules, fields_in, fields_of}
 use Rattle.reader.specs.Stands.{CouldStand, short_anyway}
 use Rattle.reader.specs.Way.{body_of}
 use Rattle.reader.proofs.Bodies.{ours_read, taken, iam_few, iam_taken}
@@ -37,7 +37,7 @@ module _ (ys : List ℕ) (octets : (i : ℕ) → get_or ys i 0 < 256) (own far :
   -- a message that has no fields of its own is read
   plain_read : length ys ≡ 6 → get_or ys 5 0 ≡ 0x46 → (fields_of own far 4096 ys).refusal ≡ 0
   plain_read n h =
-      ap (λ (f : Fields). f.refusal)
+      ap (λ (f : Told). f.refusal)
       (ours_read own far 4096 ys good (omega arith) ours octets ∙ ap (λ (k : ℕ). body_of 4096 k ys) h ∙ taken 4096 0x46 ys refl refl n (all_circuits ys octets))
 
   -- and an IAM with a count of signals that are in order, and no octets more or fewer than they take, unless its number is short
@@ -45,7 +45,7 @@ module _ (ys : List ℕ) (octets : (i : ℕ) → get_or ys i 0 < 256) (own far :
       → ((j : ℕ) → j < word_in ys / 4096 → bad_code (signal_in ys j) (ltb (suc j) (word_in ys / 4096)) ≡ false)
       → (few : Bool) → short (word_in ys % 2048) (address ys octets) ≡ few → (fields_of own far 4096 ys).refusal ≡ cond few 17 0
   iam_answer h some n fine few e =
-      ap (λ (f : Fields). f.refusal) (ours_read own far 4096 ys good (omega arith) ours octets ∙ ap (λ (k : ℕ). body_of 4096 k ys) h)
+      ap (λ (f : Told). f.refusal) (ours_read own far 4096 ys good (omega arith) ours octets ∙ ap (λ (k : ℕ). body_of 4096 k ys) h)
       ∙ go few (ap (λ (k : ℕ). short k (address ys octets)) (indicated ys octets) ∙ e)
     where
       nine : 9 ≤ length ys
@@ -63,8 +63,8 @@ module _ (ys : List ℕ) (octets : (i : ℕ) → get_or ys i 0 < 256) (own far :
           ap₂ bad_code (its ys octets j k) (ap (ltb (suc j)) (long ys octets)) ∙ fine j k)
 
       go : (few : Bool) → short (field_by (format_of 0x11) INDICATORS ys) (address ys octets) ≡ few → (body_of 4096 0x11 ys).refusal ≡ cond few 17 0
-      go true e = ap (λ (f : Fields). f.refusal) (iam_few 4096 ys nine counts whole in_order e)
-      go false e = ap (λ (f : Fields). f.refusal) (iam_taken 4096 ys nine counts whole in_order e (all_circuits ys octets))
+      go true e = ap (λ (f : Told). f.refusal) (iam_few 4096 ys nine counts whole in_order e)
+      go false e = ap (λ (f : Told). f.refusal) (iam_taken 4096 ys nine counts whole in_order e (all_circuits ys octets))
 
   -- one that begins with an operator's code is not short
   operator : (word_in ys / 4096 ≡ 0 → ⊥) → get_or ys 9 0 % 16 ≡ 11 → short (word_in ys % 2048) (address ys octets) ≡ false
@@ -368,7 +368,7 @@ module _ (own far records : ℕ) (xs : List ℕ) (octets : (i : ℕ) → get_or 
   abbrev Before : (place : ℕ) → Type 0
   Before p = CouldStand own far xs p (cond (short_anyway p xs) 17 0) × (p < length xs)
 
-  abbrev Stands : Fields → Type 0
+  abbrev Stands : Told → Type 0
   Stands f = (f.refusal ≡ 7 → ⊥) → Before f.place
 
   abbrev h : ℕ

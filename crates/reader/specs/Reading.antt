@@ -2,16 +2,13 @@
 -- Assumes nothing.
 use Rattle.std.specs.Prelude.{Bool, cond, not, ◌&&◌, ◌||◌, List, [], ◌∷◌, ℕ, eqb, leb, ltb, length, replicate}
 use Rattle.circuit.specs.Groups.{bad_group}
-use Rattle.codes.specs.Headings.{signal_of}
-use Rattle.reader.specs.declared.Fields.{Fields}
-use Rattle.reader.specs.declared.Message.{Message}
-use Rattle.reader.specs.declared.Reading.{Reading}
 use Rattle.circuit.specs.Refusals.{Rule}
 use Rattle.formats.specs.Octets.{bad_codes, first_bad, short}
 use Rattle.words.specs.Octets.{over}
 use Rattle.formats.specs.Format.{Format, Content, octets_for, field_octet, signal_octet, content_in, DPC, OPC, CIC, HEADING, ACM, CATEGORY, INDICATORS, COUNT}
 use Rattle.formats.specs.Messages.{head, format_of, signals_behind, listed}
 use Rattle.reader.specs.Faults.{Fault, fault, rules_of}
+use Rattle.reader.specs.Told.{Told, Reading, no_codes, refused, named}
 use Rattle.reader.specs.Places.{dpc_in, opc_in, cic_in, heading_in, field_by, signals_by}
 
 -- DPC is not the own code or OPC not the far one
@@ -66,16 +63,8 @@ body_rules records heading xs = rules_of (body_faults records heading xs)
 abbrev pub read_rules : ℕ → ℕ → ℕ → List ℕ → List Rule
 read_rules own far records xs = rules_of (read_faults own far records xs)
 
--- fifteen places for codes, none used
-abbrev pub no_codes : List ℕ
-no_codes = replicate 15 0
-
--- a refusal and its place: every other field is 0
-abbrev pub refused : (refusal place : ℕ) → Fields
-refused n place = record { refusal = n; place = place; circuit = record { 0 = 0 }; heading = 0; acm = 0; category = 0; indicators = 0; count = 0; address = no_codes }
-
 -- what a message says; a place of the address that is not used is 0
-abbrev pub fields_from : (heading : ℕ) → Content → Fields
+abbrev pub fields_from : (heading : ℕ) → Content → Told
 fields_from heading c = record {
   refusal = 0;
   place = 0;
@@ -89,20 +78,17 @@ fields_from heading c = record {
 }
 
 -- what the octets say by the format of a heading, which gives 0 for a field that it does not have
-abbrev pub fields_in : (heading : ℕ) → List ℕ → Fields
+abbrev pub fields_in : (heading : ℕ) → List ℕ → Told
 fields_in heading xs = fields_from heading (content_in (format_of heading) xs)
 
 -- the first fault that is found is the answer; where none is, the fields are
-abbrev pub judged : List Fault → Fields → Fields
+abbrev pub judged : List Fault → Told → Told
 judged [] fields = fields
 judged (fault n found place ∷ faults) fields = cond found (refused n place) (judged faults fields)
 
-unfoldable pub fields_of : ℕ → ℕ → ℕ → List ℕ → Fields
+unfoldable pub fields_of : ℕ → ℕ → ℕ → List ℕ → Told
 fields_of own far records xs = judged (read_faults own far records xs) (fields_in (heading_in xs) xs)
 
--- the message with its signal by name; a refusal has no signal
-abbrev pub message_of : Fields → Message
-message_of f = record { circuit = f.circuit; signal = signal_of f.heading f.acm; category = f.category; indicators = f.indicators; count = f.count; address = f.address }
-
+-- the same with the signal by name
 abbrev pub reading : ℕ → ℕ → ℕ → List ℕ → Reading
-reading own far records xs = record { refusal = (fields_of own far records xs).refusal; place = (fields_of own far records xs).place; message = message_of (fields_of own far records xs) }
+reading own far records xs = named (fields_of own far records xs)
