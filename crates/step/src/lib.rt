@@ -34,7 +34,10 @@ fn marks_part(held: Held, s: Signal) -> Marked
 fn together(m: Marked, c: Call) -> u64
     ensures { result ≡ together m c }
 {
-    let held = Held { state: c.state, flags: m.flags };
+    let held = Held {
+        state: c.state,
+        flags: m.flags,
+    };
     if m.sends == names::NO_SIGNAL {
         answers::sent(c.sends, held, c.ind)
     } else {
@@ -47,7 +50,14 @@ fn behind_marks(con: bool, state: u8, s: Signal, m: Marked) -> u64
     ensures { result ≡ behind_marks con state s m }
 {
     if m.stops {
-        return answers::sent(m.sends, Held { state, flags: m.flags }, names::IND_DISCARDED);
+        return answers::sent(
+            m.sends,
+            Held {
+                state,
+                flags: m.flags,
+            },
+            names::IND_DISCARDED,
+        );
     }
     together(m, calls::on_signal(con, state, s))
 }
