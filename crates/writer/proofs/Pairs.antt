@@ -3,13 +3,14 @@
 use mathlib.Core.Path.{◌≡◌, refl, sym, ap, ◌∙◌, subst}
 use mathlib.Core.Bool.{Bool, true, false, ◌||◌}
 use mathlib.Core.List.{List, [], ◌∷◌}
-use Prim.Native.Nat.{ℕ, zero, suc, ◌+◌, ◌*◌, ◌/◌, ◌%◌, ◌<◌, ◌≤◌}
+use Prim.Native.Nat.{ℕ, zero, suc, ◌+◌, ◌-◌, ◌*◌, ◌/◌, ◌%◌, ◌<◌, ◌≤◌}
 use native.Mathlib.Numerals.{add-one}
 use native.Mathlib.Omega.{arith}
 use borrow.Author.Tests.{ltb-false}
 use lib.Dec.{T, ltb}
 use lib.ListN.{length, get_or, set}
-use lib.Seq.{paste, paste-suc}
+use lib.Seq.{paste}
+use Rattle.std.proofs.lemmas.List.Edits.{paste_more}
 use Rattle.formats.specs.Octets.{above_fifteen}
 use Rattle.formats.specs.Way.{pairs}
 use Rattle.formats.specs.Messages.{half}
@@ -42,21 +43,17 @@ last_at (a ∷ b ∷ cs) (suc j) h =
 module _ (cs buffer : List ℕ) (room : 9 + half (length cs) ≤ length buffer) (j : ℕ) (now : List ℕ) (is : now ≡ paste buffer 9 (pairs cs) j) where
   pub pairs_more : j < length cs / 2 → set now (9 + j) (get_or cs (2 * j) 0 + 16 * get_or cs (2 * j + 1) 0) ≡ paste buffer 9 (pairs cs) (j + 1)
   pairs_more h =
-      ap (λ (l : List ℕ). set l (9 + j) (get_or cs (2 * j) 0 + 16 * get_or cs (2 * j + 1) 0)) is
-      ∙ ap (set (paste buffer 9 (pairs cs) j) (9 + j)) (sym (pair_at cs j (omega arith)))
-      ∙ paste-suc buffer 9 (pairs cs) j 0 (omega arith) (omega (arith, length_pairs cs))
-      ∙ ap (paste buffer 9 (pairs cs)) (sym (add-one j))
+      rw (is, ← pair_at cs j (omega arith)) (paste_more buffer 9 (pairs cs) j 0 (omega arith) (omega (arith, length_pairs cs)))
 
-  pub pairs_odd : j ≤ length cs / 2 → length cs / 2 ≤ j → length cs % 2 ≡ 1 → set now (9 + j) (get_or cs (2 * j) 0) ≡ paste buffer 9 (pairs cs) (half (length cs))
-  pairs_odd a b o =
-      let n : suc j ≡ half (length cs) = omega arith in
-      ap (λ (l : List ℕ). set l (9 + j) (get_or cs (2 * j) 0)) is
-      ∙ ap (set (paste buffer 9 (pairs cs) j) (9 + j)) (sym (last_at cs j (omega arith)))
-      ∙ paste-suc buffer 9 (pairs cs) j 0 (omega arith) (omega (arith, length_pairs cs))
-      ∙ ap (paste buffer 9 (pairs cs)) n
+  module _ (ends : j ≡ length cs / 2) where
+    pub pairs_odd : length cs % 2 ≡ 1 → set now (9 + length cs / 2) (get_or cs (length cs - 1) 0) ≡ paste buffer 9 (pairs cs) (half (length cs))
+    pairs_odd o =
+        let l : length cs - 1 ≡ 2 * j = omega arith in
+        let n : half (length cs) ≡ j + 1 = omega arith in
+        rw (n, l, ← ends, is, ← last_at cs j (omega arith)) (paste_more buffer 9 (pairs cs) j 0 (omega arith) (omega (arith, length_pairs cs)))
 
-  pub pairs_even : j ≤ length cs / 2 → length cs / 2 ≤ j → (length cs % 2 ≡ 1 → ⊥) → now ≡ paste buffer 9 (pairs cs) (half (length cs))
-  pairs_even a b o = let n : j ≡ half (length cs) = omega arith in is ∙ ap (paste buffer 9 (pairs cs)) n
+    pub pairs_even : (length cs % 2 ≡ 1 → ⊥) → now ≡ paste buffer 9 (pairs cs) (half (length cs))
+    pairs_even o = let n : j ≡ half (length cs) = omega arith in is ∙ ap (paste buffer 9 (pairs cs)) n
 
 -- none of the signals is above 15
 pub at_most : (s : List ℕ) (i : ℕ) → above_fifteen s ≡ false → i < length s → get_or s i 0 ≤ 15

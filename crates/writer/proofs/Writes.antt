@@ -21,7 +21,7 @@ use Rattle.formats.proofs.Lengths.{octet}
 use Rattle.formats.proofs.Places.{head_put, acm_put, nothing_put, iam_put}
 use Rattle.words.specs.Octets.{low_first, over}
 use Rattle.writer.specs.Writing.{Said, Written, too_large, bad_address, content_said, octets_of, Outcome, unwritten, putting, writing}
-use Rattle.writer.specs.Way.{label_of, plain_octets, acm_octets, iam_head, iam_octets, short_octets, iam_writing, short_writing}
+use Rattle.writer.specs.Way.{label_of, plain_octets, acm_octets, iam_head, iam_octets, short_octets, outcome, iam_writing, short_writing}
 use Rattle.writer.proofs.Pairs.{length_pairs, at_most}
 use Rattle.writer.proofs.Tests.{fitting, fitting_iam, acm_fits, few}
 use Rattle.formats.proofs.Stores.{paste_behind}
@@ -30,9 +30,12 @@ use Rattle.formats.proofs.Stores.{paste_behind}
 abbrev pub stopped : ℕ → List ℕ → Outcome
 stopped n buffer = record { answer = unwritten n; buffer = buffer }
 
--- an answer and a buffer that an outcome has
-pub meets : {o p : Outcome} {r : Written} {l : List ℕ} → o ≡ p → r ≡ p.answer → l ≡ p.buffer → (r ≡ o.answer) × (l ≡ o.buffer)
-meets e a b = (a ∙ ap (λ (o : Outcome). o.answer) (sym e), b ∙ ap (λ (o : Outcome). o.buffer) (sym e))
+-- what an outcome that is known says of answer and buffer
+pub answer_of : {o p : Outcome} → o ≡ p → p.answer ≡ o.answer
+answer_of e = ap (λ (o : Outcome). o.answer) (sym e)
+
+pub buffer_of : {o p : Outcome} → o ≡ p → p.buffer ≡ o.buffer
+buffer_of e = ap (λ (o : Outcome). o.buffer) (sym e)
 
 -- the answer by the writer's tests
 abbrev judged : List ℕ → List ℕ → Bool → Bool → Bool → Bool → Bool → Bool → Bool → Outcome
@@ -225,12 +228,16 @@ module _ (label heading acm : ℕ) (buffer : List ℕ) where
   unfolding short_writing
   short_tight e h = ap (tested (short_octets label heading acm)) (lt-ltb (length buffer) (length (short_octets label heading acm)) (rw (length_short e) h))
 
-  short_is : (b : Bool) → is_acm heading ≡ b → short_writing label heading acm buffer ≡ tested (cond b (acm_octets label acm) (plain_octets label heading)) (ltb (length buffer) (length (cond b (acm_octets label acm) (plain_octets label heading))))
+  pub short_put : is_iam heading ≡ false → fixed_length heading ≤ length buffer
+      → short_writing label heading acm buffer ≡ outcome (record { refusal = 0; length = fixed_length heading }) (over (short_octets label heading acm) buffer)
   unfolding short_writing
-  short_is b e = ap (λ (b : Bool). tested (cond b (acm_octets label acm) (plain_octets label heading)) (ltb (length buffer) (length (cond b (acm_octets label acm) (plain_octets label heading))))) e
+  short_put e h =
+      ap (tested (short_octets label heading acm)) (le-ltb (length buffer) (length (short_octets label heading acm)) (rw (length_short e) h))
+      ∙ ap (λ (n : ℕ). outcome (record { refusal = 0; length = n }) (over (short_octets label heading acm) buffer)) (length_short e)
 
-  pub short_acm : heading ≡ 0x14 → 7 ≤ length buffer → short_writing label heading acm buffer ≡ record { answer = record { refusal = 0; length = 7 }; buffer = over (acm_octets label acm) buffer }
-  short_acm e h = short_is true (eq-eqb heading 0x14 e) ∙ ap (tested (acm_octets label acm)) (le-ltb _ _ h)
+  -- what is put, by whether it is an ACM
+  pub put_if : (acm_is : heading ≡ 0x14) → over (acm_octets label acm) buffer ≡ over (short_octets label heading acm) buffer
+  put_if e = rw (eq-eqb heading 0x14 e)
 
-  pub short_plain : (heading ≡ 0x14 → ⊥) → 6 ≤ length buffer → short_writing label heading acm buffer ≡ record { answer = record { refusal = 0; length = 6 }; buffer = over (plain_octets label heading) buffer }
-  short_plain e h = short_is false (ne_eqb heading 0x14 e) ∙ ap (tested (plain_octets label heading)) (le-ltb _ _ h)
+  pub put_else : (heading ≡ 0x14 → ⊥) → over (plain_octets label heading) buffer ≡ over (short_octets label heading acm) buffer
+  put_else e = rw (ne_eqb heading 0x14 e)

@@ -1,6 +1,6 @@
 -- What the writer answers, and what the buffer holds then (docs/RULES.md, "Messages on the link" and "Refusals").
 -- Assumes nothing.
-use Rattle.std.specs.Prelude.{Bool, cond, not, ◌&&◌, ◌||◌, List, [], ◌∷◌, ℕ, zero, suc, eqb, ltb, length, Result, Ok, Err}
+use Rattle.std.specs.Prelude.{Bool, cond, not, ◌&&◌, ◌||◌, List, [], ◌∷◌, ℕ, zero, suc, ltb, length, Result, Ok, Err}
 use Rattle.circuit.specs.Groups.{bad_group}
 use Rattle.writer.specs.declared.Draft.{Draft}
 use Rattle.circuit.specs.Refusals.{refuse, Rule, first_rule}
@@ -8,8 +8,11 @@ use Rattle.names.specs.declared.Refusal.{Refusal}
 use Rattle.names.specs.Refusal.{number_of}
 use Rattle.formats.specs.Format.{Name, DPC, OPC, CIC, HEADING, ACM, CATEGORY, INDICATORS, COUNT, Format, Content, octets_from, most}
 use Rattle.formats.specs.Messages.{format_of, signals_behind, has_signals, listed}
-use Rattle.formats.specs.Octets.{bad_codes, above_fifteen, short}
+use Rattle.formats.specs.Octets.{above_fifteen, short}
 use Rattle.words.specs.Octets.{over}
+
+-- a count of 0 or above 15, a spare code, ST before the end
+unfoldable pub use Rattle.formats.specs.Octets.{bad_address}
 
 -- what the writer is told to say
 pub record Said : Type 0 where
@@ -37,10 +40,6 @@ too_large_for f m =
 
 unfoldable pub too_large : Said → Bool
 too_large m = too_large_for (format_of m.heading) m
-
--- a count of 0 or above 15, a spare code, ST before the end
-unfoldable pub bad_address : List ℕ → Bool
-bad_address address = eqb (length address) 0 || ltb 15 (length address) || bad_codes address
 
 -- what stands in the fields: the far code in DPC and the own code in OPC
 abbrev pub saying : (own far : ℕ) → Said → Name → ℕ

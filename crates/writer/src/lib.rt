@@ -8,8 +8,8 @@ ghost use Rattle.formats.specs.Messages.{format_of, fixed_length, half, listed, 
 ghost use Rattle.formats.specs.Octets.{above_fifteen};
 ghost use Rattle.formats.specs.Way.{pairs};
 ghost use Rattle.words.specs.Octets.{over};
-ghost use Rattle.writer.specs.Writing.{said_by, too_large, writing, told};
-ghost use Rattle.writer.specs.Way.{label_of, plain_octets, acm_octets, iam_head, iam_writing, short_writing};
+ghost use Rattle.writer.specs.Writing.{said_by, writing, told};
+ghost use Rattle.writer.specs.Way.{over_limits, label_of, plain_octets, acm_octets, iam_head, outcome, iam_writing, short_writing};
 
 use circuit::{Cic, Codes};
 use names::Refusal;
@@ -42,20 +42,17 @@ fn limit(has: bool, most: u32) -> u32
 impl Draft<'_> {
     // Whether a field is refused 3.
     fn too_large(self) -> bool
-        ensures { result ≡ too_large (said_by self.entry) }
+        ensures { result ≡ over_limits (said_by self.entry) }
     {
         let iam = self.heading == formats::IAM;
-        if limit(self.heading == formats::ACM, SIX_BITS) < self.acm
+        limit(self.heading == formats::ACM, SIX_BITS) < self.acm
             || limit(iam, SIX_BITS) < self.category
             || limit(iam, INDICATORS) < self.indicators
-        {
-            return true;
-        }
-        if iam {
-            formats::above_fifteen(self.address)
-        } else {
-            !self.address.is_empty()
-        }
+            || if iam {
+                formats::above_fifteen(self.address)
+            } else {
+                !self.address.is_empty()
+            }
     }
 }
 
@@ -93,13 +90,11 @@ fn put_pairs(address: &[u8], out: &mut [u8])
     ensures { out.new ≡ paste out.old 9 (pairs address.now) (half (length address.now)) }
 {
     let n = address.len();
-    let mut j = 0;
-    while j < n / 2 {
+    for j in 0..n / 2 {
         out[formats::IAM_OCTETS + j] = address[2 * j] + 16 * address[2 * j + 1];
-        j += 1;
     }
     if n % 2 == 1 {
-        out[formats::IAM_OCTETS + j] = address[2 * j];
+        out[formats::IAM_OCTETS + n / 2] = address[n - 1];
     }
 }
 
@@ -115,8 +110,7 @@ fn label_to(codes: Codes, cic: Cic) -> u64
 // An IAM whose fields are in order.
 fn write_iam(label: u64, m: Draft, out: &mut [u8]) -> Result<u8, Refusal>
     requires { (m.category ≤ 63) × (m.indicators ≤ 2047) × (above_fifteen m.address.now ≡ false) }
-    ensures answers { told result ≡ (iam_writing label m.entry.category m.entry.indicators m.entry.address.now out.old).answer }
-    ensures leaves { out.new ≡ (iam_writing label m.entry.category m.entry.indicators m.entry.address.now out.old).buffer }
+    ensures { outcome (told result) out.new ≡ iam_writing label m.entry.category m.entry.indicators m.entry.address.now out.old }
 {
     if formats::bad_address(m.address) {
         return Err(Refusal::WrongAddress);
@@ -138,8 +132,7 @@ fn write_iam(label: u64, m: Draft, out: &mut [u8]) -> Result<u8, Refusal>
 // Any other message whose fields are in order.
 fn write_short(label: u64, heading: u32, acm: u32, fixed: usize, out: &mut [u8]) -> Result<u8, Refusal>
     requires { (listed heading ≡ true) × (is_iam heading ≡ false) × (acm ≤ most (format_of heading).fields ACM) × (fixed ≡ fixed_length heading) }
-    ensures answers { told result ≡ (short_writing label heading acm out.old).answer }
-    ensures leaves { out.new ≡ (short_writing label heading acm out.old).buffer }
+    ensures { outcome (told result) out.new ≡ short_writing label heading acm out.old }
 {
     if out.len() < fixed {
         return Err(Refusal::OutputTooShort);
@@ -163,10 +156,7 @@ pub fn write(codes: Codes, records: usize, m: Draft, out: &mut [u8]) -> Result<u
     if LAST_CIC < m.cic.0 {
         return Err(Refusal::NoSuchCircuit);
     }
-    let fixed = formats::fixed_length(m.heading);
-    if fixed == 0 {
-        return Err(Refusal::NoSuchHeading);
-    }
+    let fixed = formats::fixed_length(m.heading).ok_or(Refusal::NoSuchHeading)?;
     if m.too_large() {
         return Err(Refusal::NoSuchEvent);
     }

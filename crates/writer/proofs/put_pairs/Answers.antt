@@ -1,7 +1,7 @@
 -- What the check leaves of the proof that `writer::put_pairs` meets its contract.
 -- Assumes nothing.
-use Rattle.std.proofs.Common.{◌+◌, ◌*◌, rules, arith, length-set}
-use Rattle.writer.proofs.Pairs.{pairs_more, pairs_odd, at_most}
+use Rattle.std.proofs.Common.{◌+◌, ◌*◌, arith}
+use Rattle.writer.proofs.Pairs.{pairs_more, pairs_odd, pairs_even, at_most}
 use Rattle.writer.proofs.put_pairs.Goals as goal
 
 pub overflow_mul-out-in-loop-j-2 : goal.overflow_mul-out-in-loop-j-2
@@ -16,12 +16,10 @@ overflow_add-out-in-loop-j c =
     )
 
 pub loop-j-preserved : goal.loop-j-preserved
-loop-j-preserved c = (
-  search rules,
-  simp length-set c.loop-j.invariant.1,
-  pairs_more c.args.address.now c.args.out.now c.requires.1 _ _ c.loop-j.invariant.2 c.loop-j-test.true,
-)
+loop-j-preserved c = pairs_more c.args.address.now c.args.out.now c.requires.1 _ _ c.loop-j.invariant c.loop-j-test.true
 
 pub returns-then-n-eq1 : goal.returns-then-n-eq1
-returns-then-n-eq1 c =
-    pairs_odd c.args.address.now c.args.out.now c.requires.1 _ _ c.loop-j.invariant.2 c.loop-j.invariant.0 c.loop-j-test.false c.if-n-eq1.true
+returns-then-n-eq1 c = pairs_odd c.args.address.now c.args.out.now c.requires.1 _ _ c.loop-j.invariant (omega arith) c.if-n-eq1.true
+
+pub returns-else-n-eq1 : goal.returns-else-n-eq1
+returns-else-n-eq1 c = pairs_even c.args.address.now c.args.out.now c.requires.1 _ _ c.loop-j.invariant (omega arith) c.if-n-eq1.false
