@@ -1,137 +1,81 @@
 // What a program was started with. What is wrong with it is said on standard error, behind the program's name.
-use super::said;
+use super::said::Complaints;
 use std::env::{Env, FillError};
 use std::fs::{File, Files};
 use std::io::{Error, ErrorKind};
 use std::{io, str};
 
-// The program's own work is asked for; the help is; or nothing can be done.
-pub(crate) const WORK: u8 = 0;
-
-pub(crate) const HELP: u8 = 1;
-
-pub(crate) const REFUSED: u8 = 2;
-
-// The number of the argument that names the file where none does, and the program reads standard input.
-pub(crate) const NO_FILE: usize = 0;
-
 // How many octets the longest argument has that is taken, which the path of a file has not.
 const LONGEST: usize = 4096;
 
-// What is wanted, whether in the named form, whether an argument said where the octets are, and which one names a file.
-#[derive(Clone, Copy)]
+// Where the octets are: on standard input, or in the file that an argument names, by the argument's number.
+#[derive(Clone, Copy, Debug, PartialEq, Eq)]
+pub(crate) enum Source {
+    Input,
+    File(usize),
+}
+
+// Why the program's own work is not done: the help is asked for, or nothing can be done, which is said by then.
+#[derive(Clone, Copy, Debug, PartialEq, Eq)]
+pub(crate) enum Stop {
+    Help,
+    Refused,
+}
+
+// What is asked for: lines in the named form, and where the octets are, if an argument says so.
+#[derive(Clone, Copy, Debug, PartialEq, Eq, Default)]
 pub(crate) struct Asked {
-    pub want: u8,
     pub names: bool,
-    pub told: bool,
-    pub file: usize,
+    pub source: Option<Source>,
 }
 
-fn same(a: &[u8], b: &[u8]) -> bool {
-    if a.len() != b.len() {
-        return false;
-    }
-    let mut i = 0;
-    while i < a.len() {
-        if a[i] != b[i] {
-            return false;
-        }
-        i += 1;
-    }
-    true
+fn refused<E: Print>(told: &Complaints<'_, E>, why: &[u8], word: &[u8]) -> Stop {
+    told.say(&[why, word, b"\nusage: ", told.name, b" [--names] [FILE]\n"]);
+    Stop::Refused
 }
 
-fn wanting(asked: Asked, want: u8) -> Asked {
-    Asked {
-        want: want,
-        names: asked.names,
-        told: asked.told,
-        file: asked.file,
-    }
-}
-
-fn refused(err: &impl Print, name: &[u8], asked: Asked, why: &[u8], word: &[u8]) -> Asked {
-    said::say(err, name);
-    said::say(err, why);
-    said::say(err, word);
-    said::say(err, b"\nusage: ");
-    said::say(err, name);
-    said::say(err, b" [--names] [FILE]\n");
-    wanting(asked, REFUSED)
-}
-
-fn option(err: &impl Print, name: &[u8], asked: Asked, word: &[u8]) -> Asked {
-    if same(word, b"--help") {
-        return wanting(asked, HELP);
-    }
-    if !same(word, b"--names") {
-        return refused(err, name, asked, b": unknown option ", word);
-    }
-    Asked {
-        want: asked.want,
-        names: true,
-        told: asked.told,
-        file: asked.file,
-    }
-}
-
-fn operand(err: &impl Print, name: &[u8], asked: Asked, i: usize, word: &[u8]) -> Asked {
-    if asked.told {
-        return refused(err, name, asked, b": too many arguments: ", word);
-    }
-    let file = if same(word, b"-") { NO_FILE } else { i };
-    Asked {
-        want: asked.want,
-        names: asked.names,
-        told: true,
-        file: file,
-    }
-}
-
-fn word_read(err: &impl Print, name: &[u8], asked: Asked, i: usize, word: &[u8]) -> Asked {
-    if word.len() > 1 && word[0] == b'-' {
-        return option(err, name, asked, word);
-    }
-    operand(err, name, asked, i, word)
-}
-
-// What is asked for by one argument more; none where there is no such argument.
-fn argument(
-    env: &impl Env,
-    err: &impl Print,
-    name: &[u8],
-    asked: Asked,
-    i: usize,
-) -> Option<Asked> {
-    let mut word = [0u8; LONGEST];
-    match env.arg(i, &mut word) {
-        Ok(octets) => Some(word_read(err, name, asked, i, &word[..octets])),
-        Err(FillError::NotPresent) => None,
-        Err(FillError::TooLong) => {
-            said::say(err, name);
-            said::say(err, b": argument: File name too long\n");
-            Some(wanting(asked, REFUSED))
-        }
-    }
-}
-
-pub(crate) fn read(env: &impl Env, err: &impl Print, name: &[u8]) -> Asked {
-    let mut a = Asked {
-        want: WORK,
-        names: false,
-        told: false,
-        file: NO_FILE,
-    };
-    for i in 1..usize::MAX {
-        let Some(next) = argument(env, err, name, a, i) else {
-            return a;
+impl Asked {
+    // What is asked for by one argument more.
+    fn with<E: Print>(
+        self,
+        told: &Complaints<'_, E>,
+        i: usize,
+        word: &[u8],
+    ) -> Result<Asked, Stop> {
+        let source = match word {
+            b"--help" => return Err(Stop::Help),
+            b"--names" => return Ok(Asked {
+                names: true,
+                ..self
+            }),
+            [b'-', _, ..] => return Err(refused(told, b": unknown option ", word)),
+            b"-" => Source::Input,
+            _ => Source::File(i),
         };
-        a = next;
-        if a.want != WORK {
-            return a;
+        if self.source.is_some() {
+            return Err(refused(told, b": too many arguments: ", word));
+        }
+        Ok(Asked {
+            source: Some(source),
+            ..self
+        })
+    }
+}
+
+pub(crate) fn read<E: Print>(env: &impl Env, told: &Complaints<'_, E>) -> Result<Asked, Stop> {
+    let mut asked = Asked::default();
+    for i in 1..usize::MAX {
+        let mut word = [0u8; LONGEST];
+        match env.arg(i, &mut word) {
+            Ok(octets) => asked = asked.with(told, i, &word[..octets])?,
+            Err(FillError::NotPresent) => break,
+            Err(FillError::TooLong) => {
+                told.say(&[b": argument: File name too long\n"]);
+                return Err(Stop::Refused);
+            }
         }
     }
-    a
+    Ok(asked)
 }
 
 fn open_path<R: Files>(files: &R, path: &[u8]) -> io::Result<R::File> {
@@ -141,21 +85,19 @@ fn open_path<R: Files>(files: &R, path: &[u8]) -> io::Result<R::File> {
     }
 }
 
-// Opens the file for reading; where it cannot be opened, that is said.
-pub(crate) fn open<R: Env + Files>(
+// Opens the file that an argument names for reading; where it cannot be opened, that is said.
+pub(crate) fn open<R: Env + Files, E: Print>(
     system: &R,
-    err: &impl Print,
-    name: &[u8],
-    file: usize,
+    told: &Complaints<'_, E>,
+    i: usize,
 ) -> Option<R::File> {
     let mut path = [0u8; LONGEST];
-    let octets = system.arg(file, &mut path).unwrap_or(0);
-    match open_path(system, &path[..octets]) {
+    let octets = system.arg(i, &mut path).unwrap_or(0);
+    let path = &path[..octets];
+    match open_path(system, path) {
         Ok(input) => Some(input),
         Err(e) => {
-            said::say(err, name);
-            said::say(err, b": cannot open ");
-            said::failed(err, &path[..octets], &e);
+            told.failed(&[b": cannot open ", path], &e);
             None
         }
     }

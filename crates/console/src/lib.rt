@@ -2,11 +2,14 @@
 // writes in parts, so that the file may be of any length. Where reading or writing fails it says so on standard error, and prints no last line.
 #![tactic(auto)]
 
-ghost use Rattle.std.specs.Prelude.{◌≤◌, length};
+ghost use Rattle.std.specs.Prelude.{◌≡◌, ◌+◌, ◌-◌, ◌≤◌, length};
 
+use arguments::{Source, Stop};
 use parts::{Fed, Stage};
+use said::Complaints;
 use std::io;
 use std::io::Read;
+use vocabulary::Column;
 
 mod arguments; // arguments.rt: what the program was started with
 mod said; // said.rt: what is wrong, on standard error
@@ -18,296 +21,255 @@ pub const REPLAY: u8 = 0;
 
 pub const LISTING: u8 = 1;
 
-// More is to be done; the file was read to its end or as far as it goes; reading or writing failed.
-const GOING: u8 = 0;
+// What one program does otherwise than another.
+trait Program: Drop {
+    // What the columns of its lines hold.
+    const COLUMNS: &'static [Column];
 
-const READ: u8 = 1;
+    // What it is to be fed, as whoever feeds it text is told.
+    const WANTS: &'static [u8];
 
-const FAILED: u8 = 2;
-
-// What is to be done, and whether the lines are written with words for numbers.
-#[derive(Clone, Copy)]
-struct Job {
-    what: u8,
-    names: bool,
+    // Takes what can be taken of a part of the file, and writes its lines into the room.
+    fn feed(&mut self, stage: Stage, part: &[u8], room: &mut [u8]) -> Fed
+        ensures { (result.taken ≤ length part.now) × (result.written ≤ length room.old) };
 }
 
-// Where the text stands, which octets of the buffer are read and not yet taken, and whether to go on.
-#[derive(Clone, Copy)]
-struct Progress {
-    stage: Stage,
+// The replay has the table of its group.
+#[derive(Drop)]
+struct Replay {
+    table: [u8; 40968],
+}
+
+impl Replay {
+    fn new() -> Replay {
+        Replay {
+            table: [0u8; 40968],
+        }
+    }
+}
+
+impl Program for Replay {
+    // ordinal, circuit, refusal, state, flags, indication and headings
+    const COLUMNS: &'static [Column] = &[
+        Column::Plain,
+        Column::Plain,
+        Column::Refusal,
+        Column::State,
+        Column::Flags,
+        Column::Indication,
+        Column::Heading,
+    ];
+
+    const WANTS: &'static [u8] = b"a trace is";
+
+    fn feed(&mut self, stage: Stage, part: &[u8], room: &mut [u8]) -> Fed {
+        let octets = trace::table_octets(stage);
+        trace::feed(stage, &mut self.table[..octets], part, room)
+    }
+}
+
+#[derive(Drop)]
+struct Listing;
+
+impl Program for Listing {
+    // ordinal, refusal, place, circuit, heading and fields
+    const COLUMNS: &'static [Column] = &[
+        Column::Plain,
+        Column::Refusal,
+        Column::Plain,
+        Column::Plain,
+        Column::Heading,
+        Column::Plain,
+    ];
+
+    const WANTS: &'static [u8] = b"messages are";
+
+    fn feed(&mut self, stage: Stage, part: &[u8], room: &mut [u8]) -> Fed {
+        messages::feed(stage, part, room)
+    }
+}
+
+// Why a program prints no last line, or more is to be said behind it: the file is text, and what was wanted.
+#[derive(Debug, Drop)]
+enum Trouble {
+    Read(io::Error),
+    Write(io::Error),
+    TooManyRecords,
+    TooLong,
+    Text(&'static [u8]),
+}
+
+impl Trouble {
+    fn tell<E: Print>(&self, told: &Complaints<'_, E>) {
+        match self {
+            Trouble::Read(e) => told.failed(&[b": cannot read"], e),
+            Trouble::Write(e) => told.failed(&[b": cannot write"], e),
+            Trouble::TooManyRecords => told.say(&[b": too many records\n"]),
+            Trouble::TooLong => told.say(&[b": too long\n"]),
+            Trouble::Text(wanted) => tell_octets(told, wanted),
+        }
+    }
+}
+
+fn tell_octets<E: Print>(told: &Complaints<'_, E>, wanted: &[u8]) {
+    told.say(&[
+        b": this is text, and ",
+        wanted,
+        b" octets: make them with tup-octets FILE | ",
+        told.name,
+        b"\n",
+    ]);
+}
+
+// The octets that are read and not yet taken: those of a buffer from `at` up to `have`.
+#[derive(Drop)]
+struct Unread {
+    buffer: [u8; 65536],
     at: usize,
     have: usize,
-    status: u8,
+    ghost inside: { (at ≤ have) × (have ≤ 65536) },
 }
 
-fn stopped(stage: Stage) -> Progress {
-    Progress {
-        stage: stage,
-        at: 0,
-        have: 0,
-        status: FAILED,
-    }
-}
-
-fn refused(err: &impl Print, name: &[u8], stage: Stage, why: &[u8]) -> Progress {
-    said::say(err, name);
-    said::say(err, why);
-    stopped(stage)
-}
-
-// A call of the system failed: the system's own reason is said too.
-fn failed(err: &impl Print, name: &[u8], what: &[u8], e: &io::Error) {
-    said::say(err, name);
-    said::failed(err, what, e);
-}
-
-// Writes whole lines in the form that was asked for: a replay's columns are ordinal, circuit, refusal, state, flags, indication and headings,
-// those of a list ordinal, refusal, place, circuit, heading and fields.
-fn write(out: &impl Print, job: Job, lines: &[u8]) -> io::Result<()> {
-    if !job.names {
-        return out.write_all(lines);
-    }
-    if job.what == LISTING {
-        return wording::write(out, b".r..h.", lines);
-    }
-    wording::write(out, b"..rsfih", lines)
-}
-
-fn feed(what: u8, stage: Stage, table: &mut [u8], part: &[u8], room: &mut [u8]) -> Fed
-    ensures { (result.taken ≤ length part.now) × (result.written ≤ length room.old) }
-{
-    if what == LISTING {
-        return messages::feed(stage, part, room);
-    }
-    trace::feed(stage, table, part, room)
-}
-
-// Takes what can be taken of the octets that are there, and writes the lines.
-fn take(
-    out: &impl Print,
-    err: &impl Print,
-    name: &[u8],
-    job: Job,
-    p: Progress,
-    table: &mut [u8],
-    buffer: &[u8],
-    room: &mut [u8],
-) -> Progress {
-    let stage = p.stage;
-    let at = p.at;
-    let have = p.have;
-    let octets = trace::table_octets(stage);
-    if table.len() < octets || have < at || buffer.len() < have {
-        return refused(err, name, stage, b": out of place\n");
-    }
-    let fed = feed(
-        job.what,
-        stage,
-        &mut table[..octets],
-        &buffer[at..have],
-        room,
-    );
-    let next = at + fed.taken;
-    let written = fed.written;
-    if let Err(e) = write(out, job, &room[..written]) {
-        failed(err, name, b": cannot write", &e);
-        return stopped(stage);
-    }
-    let after = fed.stage;
-    Progress {
-        stage: after,
-        at: next,
-        have: have,
-        status: GOING,
-    }
-}
-
-// Reads more behind what is not taken yet. A buffer that is full of what cannot be taken is that of a text with no further ordinal.
-fn read(
-    err: &impl Print,
-    input: &mut impl Read,
-    name: &[u8],
-    stage: Stage,
-    at: usize,
-    have: usize,
-    buffer: &mut [u8],
-) -> Progress {
-    let kept = parts::keep(buffer, at, have);
-    if buffer.len() <= kept {
-        return refused(err, name, stage, b": too many records\n");
-    }
-    match input.read(&mut buffer[kept..]) {
-        Ok(more) => Progress {
-            stage: stage,
+impl Unread {
+    fn new() -> Unread {
+        Unread {
+            buffer: [0u8; 65536],
             at: 0,
-            have: kept + more,
-            status: if more == 0 { READ } else { GOING },
-        },
-        Err(e) => {
-            failed(err, name, b": cannot read", &e);
-            stopped(stage)
+            have: 0,
         }
     }
+
+    fn octets(&self) -> &[u8]
+        ensures { self.now.at + length result.now ≡ self.now.have }
+    {
+        &self.buffer[self.at..self.have]
+    }
+
+    fn take(&mut self, n: usize)
+        requires { self.old.at + n ≤ self.old.have }
+    {
+        self.at += n;
+    }
+
+    // Reads more behind what is not taken yet, and answers whether there was more. A buffer that is full of what cannot be taken is that of a
+    // text with no further ordinal.
+    fn read(&mut self, input: &mut impl Read) -> Result<bool, Trouble> {
+        self.have = parts::keep(&mut self.buffer, self.at, self.have);
+        self.at = 0;
+        if self.have == self.buffer.len() {
+            return Err(Trouble::TooManyRecords);
+        }
+        let more = input
+            .read(&mut self.buffer[self.have..])
+            .map_err(Trouble::Read)?;
+        self.have += more;
+        Ok(more > 0)
+    }
 }
 
-fn turn(
-    out: &impl Print,
-    err: &impl Print,
-    input: &mut impl Read,
-    name: &[u8],
-    job: Job,
-    p: Progress,
-    table: &mut [u8],
-    buffer: &mut [u8],
-    room: &mut [u8],
-) -> Progress {
-    let q = take(out, err, name, job, p, table, buffer, room);
-    if q.status != GOING || p.at < q.at {
-        return q;
-    }
-    let after = q.stage;
-    if parts::is_over(after) {
-        return Progress {
-            stage: after,
-            at: q.at,
-            have: q.have,
-            status: READ,
-        };
-    }
-    read(err, input, name, after, q.at, q.have, buffer)
+// Where the lines go, and what their columns hold where they are written with words for numbers.
+#[derive(Clone, Copy)]
+struct Lines<'a, O> {
+    out: &'a O,
+    columns: Option<&'static [Column]>,
 }
 
-// A proved loop ends, and nothing says that a file does, so the turns are counted up to a number that no run reaches.
-fn turns(
-    out: &impl Print,
-    err: &impl Print,
+impl<O: Print> Lines<'_, O> {
+    fn write(&self, lines: &[u8]) -> Result<(), Trouble> {
+        match self.columns {
+            Some(columns) => wording::write(self.out, columns, lines),
+            None => self.out.write_all(lines),
+        }
+        .map_err(Trouble::Write)
+    }
+}
+
+// Reads the file and writes its lines as far as it goes, and answers where its text stands then. A proved loop ends, and nothing says that a
+// file does, so the turns are counted up to a number that no run reaches.
+fn turns<P: Program, O: Print>(
+    program: &mut P,
+    lines: &Lines<'_, O>,
     input: &mut impl Read,
-    name: &[u8],
-    job: Job,
-    table: &mut [u8],
-    buffer: &mut [u8],
+    unread: &mut Unread,
     room: &mut [u8],
-) -> Progress {
-    let mut p = Progress {
-        stage: Stage::Start,
-        at: 0,
-        have: 0,
-        status: GOING,
-    };
+) -> Result<Stage, Trouble> {
+    let mut stage = Stage::Start;
     for _ in 0..u64::MAX {
-        p = turn(out, err, input, name, job, p, table, buffer, room);
-        if p.status != GOING {
-            return p;
+        let fed = program.feed(stage, unread.octets(), room);
+        lines.write(&room[..fed.written])?;
+        unread.take(fed.taken);
+        stage = fed.stage;
+        if fed.taken == 0 && (parts::is_over(stage) || !unread.read(input)?) {
+            return Ok(stage);
         }
     }
-    let stage = p.stage;
-    refused(err, name, stage, b": too long\n")
+    Err(Trouble::TooLong)
 }
 
 fn has_group(stage: Stage) -> bool {
-    match stage {
-        Stage::Start => false,
-        Stage::Bad => false,
-        Stage::Runs(_) => true,
-        Stage::Cut(_) => true,
-    }
+    matches!(stage, Stage::Runs(_) | Stage::Cut(_))
 }
 
 fn is_text(octet: u8) -> bool {
-    if octet == b'\t' || octet == b'\n' || octet == b'\r' {
-        return true;
-    }
-    b' ' <= octet && octet <= b'~'
+    matches!(octet, b'\t' | b'\n' | b'\r' | b' '..=b'~')
 }
 
-fn tell_octets(err: &impl Print, name: &[u8], what: u8) {
-    said::say(err, name);
-    if what == LISTING {
-        said::say(err, b": this is text, and messages are");
-    } else {
-        said::say(err, b": this is text, and a trace is");
-    }
-    said::say(err, b" octets: make them with tup-octets FILE | ");
-    said::say(err, name);
-    said::say(err, b"\n");
-}
-
-// A file in its readable form has no group where its octets should begin. Whoever feeds it by mistake is told what is missing.
-fn hint(err: &impl Print, name: &[u8], what: u8, stage: Stage, rest: &[u8]) {
-    if has_group(stage) {
-        return;
-    }
-    if rest.len() == 0 {
-        return;
-    }
-    if is_text(rest[0]) {
-        tell_octets(err, name, what);
-    }
-}
-
-fn last_line(
-    out: &impl Print,
-    err: &impl Print,
-    name: &[u8],
-    what: u8,
-    p: Progress,
-    buffer: &[u8],
-    room: &mut [u8],
-) {
-    let at = p.at;
-    let have = p.have;
-    if have < at || buffer.len() < have {
-        return;
-    }
-    let stage = p.stage;
-    let n = parts::finish(stage, &buffer[at..have], room);
-    if let Err(e) = out.write_all(&room[..n]) {
-        failed(err, name, b": cannot write", &e);
-        return;
-    }
-    hint(err, name, what, stage, &buffer[at..have]);
-}
-
-fn work(out: &impl Print, err: &impl Print, input: &mut impl Read, name: &[u8], job: Job) {
-    let mut table = [0u8; 40968];
-    let mut buffer = [0u8; 65536];
+// Writes the lines of a file, and its last line. A file in its readable form has no group where its octets should begin: whoever feeds it by
+// mistake is told what is missing.
+fn work<P: Program, O: Print>(
+    mut program: P,
+    lines: &Lines<'_, O>,
+    input: &mut impl Read,
+) -> Result<(), Trouble> {
+    let mut unread = Unread::new();
     let mut room = [0u8; 65536];
-    let p = turns(
-        out,
-        err,
-        input,
-        name,
-        job,
-        &mut table,
-        &mut buffer,
-        &mut room,
-    );
-    if p.status == READ {
-        last_line(out, err, name, job.what, p, &buffer, &mut room);
+    let stage = turns(&mut program, lines, input, &mut unread, &mut room)?;
+    let rest = unread.octets();
+    let n = parts::finish(stage, rest, &mut room);
+    lines.out.write_all(&room[..n]).map_err(Trouble::Write)?;
+    if !has_group(stage) && rest.first().is_some_and(|octet| is_text(*octet)) {
+        return Err(Trouble::Text(P::WANTS));
     }
+    Ok(())
 }
 
 // Does a program's work as its arguments ask, or prints its help.
-pub fn start(rt: &HostRuntime, what: u8, name: &[u8], help: &[u8]) {
+fn run<P: Program, E: Print>(
+    rt: &HostRuntime,
+    told: &Complaints<'_, E>,
+    program: P,
+    help: &[u8],
+) -> Result<(), Trouble> {
     let out = rt.stdout();
-    let err = rt.stderr();
-    let asked = arguments::read(rt, &err, name);
-    if asked.want == arguments::HELP {
-        if let Err(e) = out.write_all(help) {
-            failed(&err, name, b": cannot write", &e);
-        }
-    }
-    if asked.want != arguments::WORK {
-        return;
-    }
-    let job = Job {
-        what: what,
-        names: asked.names,
+    let asked = match arguments::read(rt, told) {
+        Ok(asked) => asked,
+        Err(Stop::Help) => return out.write_all(help).map_err(Trouble::Write),
+        Err(Stop::Refused) => return Ok(()),
     };
-    if asked.file == arguments::NO_FILE {
-        work(&out, &err, &mut rt.stdin(), name, job);
-    } else if let Some(mut input) = arguments::open(rt, &err, name, asked.file) {
-        work(&out, &err, &mut input, name, job);
+    let lines = Lines {
+        out: &out,
+        columns: asked.names.then_some(P::COLUMNS),
+    };
+    match asked.source {
+        Some(Source::File(i)) => match arguments::open(rt, told, i) {
+            Some(mut input) => work(program, &lines, &mut input),
+            None => Ok(()),
+        },
+        Some(Source::Input) | None => work(program, &lines, &mut rt.stdin()),
+    }
+}
+
+// Does a program's work, and says what went wrong.
+pub fn start(rt: &HostRuntime, what: u8, name: &[u8], help: &[u8]) {
+    let told = Complaints {
+        err: &rt.stderr(),
+        name,
+    };
+    let done = match what {
+        LISTING => run(rt, &told, Listing, help),
+        _ => run(rt, &told, Replay::new(), help),
+    };
+    if let Err(trouble) = done {
+        trouble.tell(&told);
     }
 }
