@@ -148,13 +148,13 @@ module _ (c : Bool) (table : List ℕ) (cic : ℕ) (event : Option Event) where
           is_bad = bad c (state_at table cic) (flags_at table cic) event e
 
   -- and so the program's answer and table are the definition's
-  pub ends : (at : Stored) (w r : ℕ) (after : List ℕ) → at ≡ stored_at table cic → cic < records_in (length table) → at.state < 256 → at.flags < 256
-      → w ≡ packed (answer_to c at.state at.flags event) → Unpacked w (answer_to c at.state at.flags event)
-      → r ≡ (landed table cic at.state at.flags w).answer → after ≡ (landed table cic at.state at.flags w).table
+  pub ends : (at : Stored) (w r : ℕ) (after : List ℕ) → at ≡ stored_at table cic → cic < records_in (length table) → at.held.state < 256 → at.held.flags < 256
+      → w ≡ packed (answer_to c at.held.state at.held.flags event) → Unpacked w (answer_to c at.held.state at.held.flags event)
+      → r ≡ (landed table cic at.held.state at.held.flags w).answer → after ≡ (landed table cic at.held.state at.held.flags w).table
       → (r ≡ packed (Way.on_circuit c table cic event).answer) × (Unpacked r (Way.on_circuit c table cic event).answer × (after ≡ (Way.on_circuit c table cic event).table))
   ends at w r after is h hs hf e u p q =
-      let is_state : at.state ≡ state_at table cic = ap (λ (x : Stored). x.state) (is ∙ stored_in table cic h) in
-      let is_flags : at.flags ≡ flags_at table cic = ap (λ (x : Stored). x.flags) (is ∙ stored_in table cic h) in
+      let is_state : at.held.state ≡ state_at table cic = ap (λ (x : Stored). x.held.state) (is ∙ stored_in table cic h) in
+      let is_flags : at.held.flags ≡ flags_at table cic = ap (λ (x : Stored). x.held.flags) (is ∙ stored_in table cic h) in
       let l = leads w (rw (is_state, is_flags) at e) (rw (is_state, is_flags) at u) (rw is_state at hs) (rw is_flags at hf) in
       let number = (rw (is_state, is_flags) at p) ∙ ap (λ (x : Landed). x.answer) l.0 in
       (number, (subst (λ (n : ℕ). Unpacked n (Way.on_circuit c table cic event).answer) (sym number) l.1, (rw (is_state, is_flags) at q) ∙ ap (λ (x : Landed). x.table) l.0))

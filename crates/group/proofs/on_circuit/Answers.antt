@@ -7,6 +7,6 @@ use Rattle.group.proofs.on_circuit.Goals as goal
 
 pub returns : goal.returns
 returns c =
-    let a = c.args in let at = c.stored_at-at in let s = c.step-answer in let l = c.land in
-    let e = ends a.con a.table.now a.cic.0 (event_of a.kind a.code a.detail) at.result s.result l.result _ at.ensures c.requires (search rules) (search rules) s.ensures.packs s.ensures.unpacks l.ensures.answers l.ensures.leaves in
+    let a = c.args in let at = c.stored_at in let s = c.step-answer in let l = c.land in
+    let e = ends a.con a.table.now a.cic.0 (event_of a.numbers.kind a.numbers.code a.numbers.detail) at.result s.result l.result _ at.ensures c.requires (search rules) (search rules) s.ensures.packs s.ensures.unpacks l.ensures.answers l.ensures.leaves in
     record { packs = e.0; unpacks = e.1.0; leaves = e.1.1 }
