@@ -2,13 +2,14 @@
 -- has the test computed at each column.
 -- Assumes nothing.
 use mathlib.Core.Path.{◌≡◌, refl, ap, ◌∙◌, sym, subst}
-use mathlib.Core.Bool.{Bool, true, false, cond, ◌&&◌}
+use mathlib.Core.Bool.{Bool, true, false, cond, not, ◌&&◌}
 use mathlib.Core.List.{List}
 use Prim.Native.Nat.{ℕ, ◌+◌, ◌*◌, ◌/◌, ◌%◌, ◌<◌, ◌≤◌}
 use native.Mathlib.Omega.{arith}
 use lib.Dec.{T, eqb, eqb→eq, leb, leb→le}
 use lib.ListN.{get_or}
 use borrow.Author.Tests.{le-leb}
+use Rattle.std.specs.Int.{from_bool}
 use Rattle.circuit.specs.declared.Signal.{Signal}
 use Rattle.circuit.specs.Every.{implies, each_below}
 use Rattle.circuit.proofs.Every.{left, right, then, at_below}
@@ -39,23 +40,23 @@ pub ruled : (sig : Signal) (numbers : List ℕ) → T (each_below 26 (right_at s
 unfolding Column
 ruled sig numbers t i h = is_same _ _ (right (is_number (get_or numbers i 0)) _ (at_below 26 (right_at sig numbers) t i h))
 
-role_at : (n : ℕ) (c : Bool) → eqb ((n * 2 + cond c 0 1) % 2) 0 ≡ c
+role_at : (n : ℕ) (c : Bool) → eqb ((n * 2 + from_bool (not c)) % 2) 0 ≡ c
 role_at n true = let e : (n * 2 + 0) % 2 ≡ 0 = omega arith in rw e
 role_at n false = let e : (n * 2 + 1) % 2 ≡ 1 = omega arith in rw e
 
-low : (c : Bool) → cond c 0 1 < 2
+low : (c : Bool) → from_bool (not c) < 2
 low true = omega arith
 low false = omega arith
 
 -- the entry of a state and a role in a column
-pub at_place : (c : Bool) (s : ℕ) (sig : Signal) (numbers : List ℕ) → s ≤ 12 → Column sig numbers → meaning (get_or numbers (s * 2 + cond c 0 1) 0) ≡ on_call c s sig
+pub at_place : (c : Bool) (s : ℕ) (sig : Signal) (numbers : List ℕ) → s ≤ 12 → Column sig numbers → meaning (get_or numbers (s * 2 + from_bool (not c)) 0) ≡ on_call c s sig
 unfolding Column
 at_place c s sig numbers h column =
-    let b : cond c 0 1 < 2 = low c in
-    let state : (s * 2 + cond c 0 1) / 2 ≡ s = omega arith in
-    subst (λ (k : ℕ). meaning (get_or numbers (s * 2 + cond c 0 1) 0) ≡ on_call c k sig) state
-    (subst (λ (r : Bool). meaning (get_or numbers (s * 2 + cond c 0 1) 0) ≡ on_call r ((s * 2 + cond c 0 1) / 2) sig) (role_at s c)
-    (column (s * 2 + cond c 0 1) (omega arith)))
+    let b : from_bool (not c) < 2 = low c in
+    let state : (s * 2 + from_bool (not c)) / 2 ≡ s = omega arith in
+    subst (λ (k : ℕ). meaning (get_or numbers (s * 2 + from_bool (not c)) 0) ≡ on_call c k sig) state
+    (subst (λ (r : Bool). meaning (get_or numbers (s * 2 + from_bool (not c)) 0) ≡ on_call r ((s * 2 + from_bool (not c)) / 2) sig) (role_at s c)
+    (column (s * 2 + from_bool (not c)) (omega arith)))
 
 -- the number of a call part: each number that exists comes back from its meaning, so that no two of them mean the same
 abbrev number : Call → ℕ

@@ -2,14 +2,14 @@
 // state, the signal sent and the indication. Block and unblock are in `marks`.
 #![tactic(auto)]
 
-ghost use Rattle.std.specs.Prelude.{◌≡◌, cond, ◌<◌, ◌≤◌};
-ghost use Rattle.calls.specs.Calls.{by_digit, meaning, on_call};
+ghost use Rattle.std.specs.Prelude.{◌≡◌, ◌≤◌};
+ghost use Rattle.calls.specs.Calls.{meaning, on_call};
 ghost use Rattle.calls.specs.Way.{Column};
 
 use circuit::Signal;
 
 // What a signal does to the call: the new state, the heading of what is sent, 0 for nothing, and the indication.
-#[derive(Clone, Copy)]
+#[derive(Clone, Copy, Debug, PartialEq, Eq)]
 pub struct Call {
     pub state: u8,
     pub sends: u8,
@@ -438,78 +438,37 @@ fn column(s: Signal) -> [u8; 26]
     }
 }
 
-fn role(con: bool) -> usize
-    ensures { (result ≡ cond con 0 1) × (result < 2) }
-{
-    if con { 0 } else { 1 }
-}
-
 // The entry of a signal in a state, in our role: its number, by what it means.
 fn entry(con: bool, state: u8, s: Signal) -> u8
     requires { state ≤ 12 }
     ensures { meaning result ≡ on_call con state s }
 {
-    let entries = column(s);
-    entries[(state as usize) * 2 + role(con)]
+    column(s)[usize::from(state) * 2 + usize::from(!con)]
 }
 
-fn sending(state: u8, digit: u8) -> Call
-    requires { 10 ≤ digit }
-    ensures { result ≡ by_digit state digit }
-{
-    match digit {
-        0xa => Call {
-            state: state,
-            sends: names::CLF,
-            ind: names::IND_CALL_FAILED,
-        },
-        0xb => Call {
-            state: state,
-            sends: names::CLF,
-            ind: names::IND_TRY_ELSEWHERE,
-        },
-        0xc => Call {
-            state: state,
-            sends: names::RLG,
-            ind: names::IND_NOTHING,
-        },
-        0xd => Call {
-            state: state,
-            sends: names::RLG,
-            ind: names::IND_CIRCUIT_FREED,
-        },
-        _ => Call {
-            state: state,
-            sends: names::RLG,
-            ind: names::IND_TRY_ELSEWHERE,
-        },
-    }
-}
-
+#[tactic(auto, unfolding(crate::specs::Calls::meaning))]
 fn meaning(n: u8) -> Call
     ensures { result ≡ meaning n }
 {
-    let digit = n % 16;
-    if 0xa <= digit {
-        return sending(n / 16, digit);
-    }
-    Call {
-        state: n / 16,
-        sends: names::NO_SIGNAL,
-        ind: digit,
-    }
+    let state = n / 16;
+    let (sends, ind) = match n % 16 {
+        0xa => (names::CLF, names::IND_CALL_FAILED),
+        0xb => (names::CLF, names::IND_TRY_ELSEWHERE),
+        0xc => (names::RLG, names::IND_NOTHING),
+        0xd => (names::RLG, names::IND_CIRCUIT_FREED),
+        0xe | 0xf => (names::RLG, names::IND_TRY_ELSEWHERE),
+        ind => (names::NO_SIGNAL, ind),
+    };
+    Call { state, sends, ind }
 }
 
 // What a signal does to the call in a state, at the end that controls the circuit (con) or at the other.
+#[tactic(auto, unfolding(crate::specs::Calls::on_call))]
 pub fn on_signal(con: bool, state: u8, s: Signal) -> Call
     ensures { result ≡ on_call con state s }
 {
     if names::AWAITING_RESET < state {
-        return Call {
-            state: state,
-            sends: names::NO_SIGNAL,
-            ind: names::IND_DISCARDED,
-        };
+        return Call { state, sends: names::NO_SIGNAL, ind: names::IND_DISCARDED };
     }
     meaning(entry(con, state, s))
 }

@@ -15,4 +15,4 @@ bit worth t f fits = alike_same _ _ (at_below 256 (λ f. alike (not (eqb (bit_an
 pub returns : goal.returns
 returns c =
     let h = c.ranges.octet.fits in
-    rw (bit 1 tt _ h, bit 2 tt _ h, bit 4 tt _ h, bit 8 tt _ h, div-one)
+    cc (bit 1 tt _ h, bit 2 tt _ h, bit 4 tt _ h, bit 8 tt _ h, div-one c.args.octet)
