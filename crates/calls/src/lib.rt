@@ -416,6 +416,7 @@ const CALLS: [[u8; 26]; 14] = [
 
 // A signal's column. Each case names it by a constant number, so that the compiler copies that column and not the table. The table itself is named
 // once, since the prover carries all of it wherever it is named.
+#[tactic(auto, using(crate::proofs::Rule::ruled), unfolding(crate::specs::Calls::meaning, crate::specs::Calls::on_call, circuit::specs::Rows::first))]
 fn column(s: Signal) -> [u8; 26]
     ensures { Column s result }
 {
@@ -468,7 +469,11 @@ pub fn on_signal(con: bool, state: u8, s: Signal) -> Call
     ensures { result ≡ on_call con state s }
 {
     if names::AWAITING_RESET < state {
-        return Call { state, sends: names::NO_SIGNAL, ind: names::IND_DISCARDED };
+        return Call {
+            state,
+            sends: names::NO_SIGNAL,
+            ind: names::IND_DISCARDED,
+        };
     }
     meaning(entry(con, state, s))
 }
