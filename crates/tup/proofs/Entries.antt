@@ -3,34 +3,17 @@
 use mathlib.Core.Path.{◌≡◌, refl, sym, ap, ◌∙◌}
 use mathlib.Core.Bool.{Bool, cond}
 use mathlib.Core.List.{List}
-use Prim.Native.Nat.{ℕ, zero, suc, ◌+◌, ◌<◌, ◌≤◌}
-use native.Mathlib.Numerals.{add-one}
-use native.Mathlib.Omega.{arith}
+use Prim.Native.Nat.{ℕ, zero, suc, ◌<◌, ◌≤◌}
 use borrow.Author.Tests.{lt-ltb, le-ltb}
-use lib.ListN.{length, get_or, set}
-use lib.Seq.{paste, paste-suc}
-use Rattle.reader.specs.declared.Fields.{Fields}
+use lib.ListN.{length}
+use Rattle.reader.specs.Told.{Told as Fields}
 use Rattle.words.specs.Octets.{over}
 use Rattle.reader.specs.Reading.{fields_of}
-use Rattle.tup.specs.Entries.{fields_head, fields_octets, packed_refusal, Told, telling, read_into}
-use Rattle.formats.proofs.Stores.{paste_behind}
+use Rattle.tup.specs.Entries.{fields_octets, packed_refusal, Told, telling, read_into}
 
 -- an answer and a buffer that are told
 pub tells : {o p : Told} {r : ℕ} {l : List ℕ} → o ≡ p → r ≡ p.answer → l ≡ p.buffer → (r ≡ o.answer) × (l ≡ o.buffer)
 tells e a b = (a ∙ ap (λ (o : Told). o.answer) (sym e), b ∙ ap (λ (o : Told). o.buffer) (sym e))
-
--- the codes stand behind the other fields
-pub put_all : (f : Fields) (buffer now after : List ℕ) → length f.address ≡ 15 → now ≡ over (fields_head f) buffer → after ≡ paste now 8 f.address 15
-    → after ≡ over (fields_octets f) buffer
-put_all f buffer now after n p q =
-    q ∙ ap (λ (l : List ℕ). paste l 8 f.address 15) p ∙ ap (paste (over (fields_head f) buffer) 8 f.address) (sym n)
-    ∙ paste_behind (fields_head f) f.address buffer
-
--- a turn of the loop that stores fifteen codes
-pub codes_more : (codes buffer : List ℕ) → 23 ≤ length buffer → length codes ≡ 15 → (i : ℕ) (now : List ℕ) → now ≡ paste buffer 8 codes i → i < 15
-    → set now (8 + i) (get_or codes i 0) ≡ paste buffer 8 codes (i + 1)
-codes_more codes buffer room n i now is h =
-    ap (λ (l : List ℕ). set l (8 + i) (get_or codes i 0)) is ∙ paste-suc buffer 8 codes i 0 (omega arith) (omega arith) ∙ ap (paste buffer 8 codes) (sym (add-one i))
 
 module _ (own far count : ℕ) (xs buffer : List ℕ) (f : Fields) (is : f ≡ fields_of own far count xs) where
   told : read_into own far count xs buffer ≡ telling f.refusal f buffer

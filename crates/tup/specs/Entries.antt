@@ -1,10 +1,15 @@
 -- The reader and the writer on plain numbers, as a host in C calls them: what they answer, and what a lent buffer holds then.
 -- Assumes nothing.
 use Rattle.std.specs.Prelude.{cond, List, [], ◌∷◌, ◌++◌, ℕ, zero, suc, ◌+◌, ◌*◌, min, ltb, length}
-use Rattle.reader.specs.declared.Fields.{Fields}
+use Rattle.circuit.specs.declared.Codes.{Codes}
+use Rattle.reader.specs.Told.{Told as Fields}
 use Rattle.words.specs.Octets.{low_first, over}
 use Rattle.reader.specs.Reading.{fields_of}
 use Rattle.writer.specs.Writing.{Said, Written, writing}
+
+-- the two codes of a group
+abbrev pub codes_of : (own far : ℕ) → Codes
+codes_of own far = record { own = record { 0 = own }; far = record { 0 = far } }
 
 -- the fields of a message in 23 octets: circuit (two, lowest first), heading, ACM's octet, category, indicators (two, lowest first), count,
 -- fifteen codes

@@ -2,30 +2,40 @@
 // cut to fit.
 #![tactic(auto)]
 
-ghost use Rattle.std.specs.Prelude.{◌≡◌, ◌<◌, ◌≤◌, length};
-ghost use Rattle.std.proofs.Math.Seq.{paste};
+ghost use Rattle.std.specs.Prelude.{◌≡◌, ◌<◌, ◌≤◌, length, Ok};
 ghost use Rattle.codes.specs.Numbers.{event_of};
+ghost use Rattle.names.specs.Refusal.{number_of};
 ghost use Rattle.words.specs.Octets.{over};
 ghost use Rattle.answers.specs.Answers.{packed, Unpacked};
 ghost use Rattle.group.specs.Table.{step_in};
-ghost use Rattle.select.specs.Selection.{select_in};
+ghost use Rattle.select.specs.Selection.{select_in, told as selected};
+ghost use Rattle.reader.specs.Told.{told as read};
 ghost use Rattle.writer.specs.Writing.{said};
 ghost use Rattle.tup.specs.Packed.{packed_choice, ChoiceUnpacked};
-ghost use Rattle.tup.specs.Entries.{fields_octets, packed_refusal, read_into, write_from};
+ghost use Rattle.tup.specs.Entries.{codes_of, fields_octets, packed_refusal, read_into, write_from};
 
-use circuit::{Cic, PointCode};
-use reader::Fields;
-use select::Selected;
+use circuit::{Cic, Codes, PointCode};
+use codes::Numbers;
+use names::Refusal;
+use reader::{Fault, Fields};
+use select::Choice;
+use writer::Draft;
 
-// The octets that the fields of a message take, and where its fifteen codes stand among them.
+// The octets that the fields of a message take.
 const FIELDS_OCTETS: usize = 23;
-
-const CODES_FROM: usize = 8;
-
-const CODES: usize = 15;
 
 // The most that a place can be behind the eight bits of a refusal.
 const MOST_PLACE: u64 = 0xffffffffffffff;
+
+// The codes of a group, as a host gives them.
+fn codes_of(own: u32, far: u32) -> Codes
+    ensures { result ≡ codes_of own far }
+{
+    Codes {
+        own: PointCode(own),
+        far: PointCode(far),
+    }
+}
 
 // An event on a circuit of a group: own and far point code, the group's table of records, the circuit; the event by its kind (1 signal,
 // 2 command, 3 timer), its code and its detail. The answer is packed into one number.
@@ -42,24 +52,19 @@ pub fn tup_step(
     ensures unpacks { Unpacked result (step_in own far table.old cic (event_of kind code detail)).answer }
     ensures leaves { table.new ≡ (step_in own far table.old cic (event_of kind code detail)).table }
 {
-    group::step(
-        PointCode(own),
-        PointCode(far),
-        table,
-        Cic(cic),
-        kind,
-        code,
-        detail,
-    )
+    let numbers = Numbers { kind, code, detail };
+    group::step(codes_of(own, far), table, Cic(cic), numbers)
 }
 
-fn pack_choice(s: Selected) -> u64
-    requires { (s.cic.0 < 4096) × (s.looked ≤ 4096) }
-    ensures packs { result ≡ packed_choice s }
-    ensures unpacks { ChoiceUnpacked result s }
+fn pack_choice(chosen: Result<Choice, Refusal>) -> u64
+    requires { ((selected chosen).cic.0 < 4096) × ((selected chosen).looked ≤ 4096) }
+    ensures packs { result ≡ packed_choice (selected chosen) }
+    ensures unpacks { ChoiceUnpacked result (selected chosen) }
 {
-    let cic = s.cic;
-    s.refusal as u64 + 0x10000 * (cic.0 as u64 + 0x10000 * (s.looked as u64))
+    match chosen {
+        Ok(choice) => 0x10000 * (u64::from(choice.cic.0) + 0x10000 * u64::from(choice.looked)),
+        Err(refusal) => refusal as u64,
+    }
 }
 
 // Which circuit of a group to seize, and how many records were looked at, packed into one number. Nothing is seized.
@@ -67,47 +72,28 @@ pub fn tup_select(own: u32, far: u32, table: &[u8]) -> u64
     ensures answers { result ≡ packed_choice (select_in own far table.now) }
     ensures unpacks { ChoiceUnpacked result (select_in own far table.now) }
 {
-    pack_choice(select::select(PointCode(own), PointCode(far), table))
+    pack_choice(select::select(codes_of(own, far), table))
 }
 
-// Fifteen codes, behind the other fields.
-fn put_codes(address: &[u8], out: &mut [u8])
-    requires { (length address.now ≡ 15) × (23 ≤ length out.old) }
-    ensures { out.new ≡ paste out.old 8 address.now 15 }
-{
-    let mut i = 0;
-    while i < CODES {
-        out[CODES_FROM + i] = address[i];
-        i += 1;
-    }
-}
-
-// The fields of a message at the start of a buffer.
+// The fields of a message at the start of a buffer: circuit and indicators in two octets each, lowest first.
 fn put_fields(f: Fields, out: &mut [u8])
     requires { 23 ≤ length out.old }
-    ensures { out.new ≡ over (fields_octets f) out.old }
+    ensures { out.new ≡ over (fields_octets (read (Ok f))) out.old }
 {
-    let circuit = f.circuit;
-    let address = f.address;
-    out[0] = (circuit.0 % 256) as u8;
-    out[1] = (circuit.0 / 256 % 256) as u8;
+    out[..2].copy_from_slice(&f.circuit.0.to_le_bytes()[..2]);
     out[2] = f.heading;
     out[3] = f.acm;
     out[4] = f.category;
-    out[5] = (f.indicators % 256) as u8;
-    out[6] = (f.indicators / 256 % 256) as u8;
+    out[5..7].copy_from_slice(&f.indicators.to_le_bytes()[..2]);
     out[7] = f.count;
-    put_codes(&address, out);
+    out[8..FIELDS_OCTETS].copy_from_slice(&f.address);
 }
 
 // The refusal of a message and its place in one number.
-fn pack_refusal(refusal: u8, place: u64) -> u64
-    ensures { result ≡ packed_refusal refusal place }
+fn pack_refusal(fault: Fault) -> u64
+    ensures { result ≡ packed_refusal (number_of fault.refusal) fault.place }
 {
-    if place < MOST_PLACE {
-        return refusal as u64 + 256 * place;
-    }
-    refusal as u64 + 256 * MOST_PLACE
+    fault.refusal as u64 + 256 * fault.place.min(MOST_PLACE)
 }
 
 // Reads a message from its label on, in a group of `count` circuits. The answer is the refusal and 256 times its place; where it is 0 the fields
@@ -116,14 +102,14 @@ pub fn tup_read(own: u32, far: u32, count: u32, octets: &[u8], out: &mut [u8]) -
     ensures answers { result ≡ (read_into own far count octets.now out.old).answer }
     ensures leaves { out.new ≡ (read_into own far count octets.now out.old).buffer }
 {
-    let f = reader::read_fields(PointCode(own), PointCode(far), count as usize, octets);
-    if f.refusal != names::ACCEPTED {
-        return pack_refusal(f.refusal, f.place);
-    }
+    let fields = match reader::read_fields(codes_of(own, far), count as usize, octets) {
+        Ok(fields) => fields,
+        Err(fault) => return pack_refusal(fault),
+    };
     if out.len() < FIELDS_OCTETS {
-        return names::OUTPUT_TOO_SHORT as u64;
+        return Refusal::OutputTooShort as u64;
     }
-    put_fields(f, out);
+    put_fields(fields, out);
     0
 }
 
@@ -143,17 +129,16 @@ pub fn tup_write(
     ensures answers { result ≡ (write_from own far count (said cic heading acm category indicators address.now) out.old).answer }
     ensures leaves { out.new ≡ (write_from own far count (said cic heading acm category indicators address.now) out.old).buffer }
 {
-    let w = writer::write(
-        PointCode(own),
-        PointCode(far),
-        count as usize,
-        Cic(cic),
+    let m = Draft {
+        cic: Cic(cic),
         heading,
         acm,
         category,
         indicators,
         address,
-        out,
-    );
-    w.refusal as u32 + 256 * (w.length as u32)
+    };
+    match writer::write(codes_of(own, far), count as usize, m, out) {
+        Ok(length) => 256 * u32::from(length),
+        Err(refusal) => refusal as u32,
+    }
 }

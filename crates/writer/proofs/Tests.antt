@@ -1,6 +1,5 @@
 -- Tests one after the other: the first that holds decides.
 -- Assumes nothing.
-use Rattle.std.specs.Prelude.{Some, None}
 use mathlib.Core.Path.{◌≡◌, refl, sym, ap, ◌∙◌, subst}
 use mathlib.Core.Bool.{Bool, true, false, cond, ◌||◌}
 use Prim.Native.Nat.{ℕ, ◌<◌, ◌≤◌}
@@ -12,7 +11,7 @@ use lib.ListN.{length}
 use Rattle.circuit.proofs.Groups.{none}
 use Rattle.formats.specs.Octets.{bad_codes, above_fifteen}
 use Rattle.formats.specs.Format.{ACM, CATEGORY, INDICATORS, most}
-use Rattle.formats.specs.Messages.{format_of, has_signals, listed, fixed_length, is_iam, is_acm}
+use Rattle.formats.specs.Messages.{format_of, has_signals, is_iam, is_acm}
 use Rattle.formats.proofs.ByHeading.{signals_of_iam, acm_most, category_most, indicators_most}
 use Rattle.writer.specs.Writing.{Said, too_large, bad_address}
 use Rattle.writer.specs.Way.{over_limits}
@@ -71,19 +70,3 @@ in_order address e = go (eqb (length address) 0) refl (ltb 15 (length address)) 
 
 pub few : (address : List ℕ) → bad_address address ≡ false → length address ≤ 15
 few address e = (in_order address e).1
-
--- a heading is listed where it has a length
-module _ (h : ℕ) where
-  pub listed_so : (n : ℕ) → cond (listed h) (Some (fixed_length h)) None ≡ Some n → (listed h ≡ true) × (n ≡ fixed_length h)
-  listed_so n e = go (listed h) refl e
-    where
-      go : (b : Bool) → listed h ≡ b → cond b (Some (fixed_length h)) None ≡ Some n → (listed h ≡ true) × (n ≡ fixed_length h)
-      go true p q = (p, cc)
-      go false p q = absurd (cc)
-
-  pub unlisted_so : cond (listed h) (Some (fixed_length h)) None ≡ None → listed h ≡ false
-  unlisted_so e = go (listed h) refl e
-    where
-      go : (b : Bool) → listed h ≡ b → cond b (Some (fixed_length h)) None ≡ None → listed h ≡ false
-      go true p q = absurd (cc)
-      go false p q = p

@@ -5,7 +5,8 @@ use Rattle.std.proofs.Common.{◌≡◌, Option, Some, None, Err, rules, refl, s
 use Rattle.names.specs.declared.Refusal.TheVariants.{NoSuchHeading}
 use Rattle.writer.specs.Writing.{said_by}
 use Rattle.writer.proofs.Writes.{answer_of, buffer_of, no_group, no_circuit, no_heading, no_field, an_iam_lem, no_iam}
-use Rattle.writer.proofs.Tests.{by_limits, fitting, fitting_iam, listed_so, unlisted_so}
+use Rattle.writer.proofs.Tests.{by_limits, fitting, fitting_iam}
+use Rattle.formats.proofs.Lengths.{no_length, a_length}
 use Rattle.writer.proofs.write.Goals as goal
 
 pub returns-then-bad_group : goal.returns-then-bad_group
@@ -22,13 +23,13 @@ pub returns-in_err-fixed : goal.returns-in_err-fixed
 returns-in_err-fixed c =
     let none : c.fixed_length.result ≡ None = search rules in
     let is : c.from_residual.result ≡ Err NoSuchHeading = search rules in
-    let e = no_heading _ _ _ _ _ (sym c.bad_group.ensures ∙ c.if-bad_group.false) c.if-m-gt-LAST_CIC.false (unlisted_so c.args.m.heading (sym c.fixed_length.ensures ∙ none)) in
+    let e = no_heading _ _ _ _ _ (sym c.bad_group.ensures ∙ c.if-bad_group.false) c.if-m-gt-LAST_CIC.false (no_length c.args.m.heading (sym c.fixed_length.ensures ∙ none)) in
     record { answers = rw is (answer_of e); leaves = buffer_of e }
 
 pub returns-then-too_large : goal.returns-then-too_large
 returns-then-too_large c =
     let some : c.fixed_length.result ≡ Some c.in_ok-fixed.fixed = search rules in
-    let heading = (listed_so c.args.m.heading _ (sym c.fixed_length.ensures ∙ some)).0 in
+    let heading = (a_length c.args.m.heading _ (sym c.fixed_length.ensures ∙ some)).0 in
     let e = no_field _ _ _ _ _ (sym c.bad_group.ensures ∙ c.if-bad_group.false) c.if-m-gt-LAST_CIC.false heading (sym (by_limits (said_by c.args.m)) ∙ sym c.too_large.ensures ∙ c.if-too_large.true) in
     record { answers = answer_of e; leaves = buffer_of e }
 
@@ -38,7 +39,7 @@ write_iam-requires c = fitting_iam _ (sym (by_limits (said_by c.args.m)) ∙ sym
 pub returns-then-m-eq-IAM : goal.returns-then-m-eq-IAM
 returns-then-m-eq-IAM c =
     let some : c.fixed_length.result ≡ Some c.in_ok-fixed.fixed = search rules in
-    let heading = (listed_so c.args.m.heading _ (sym c.fixed_length.ensures ∙ some)).0 in
+    let heading = (a_length c.args.m.heading _ (sym c.fixed_length.ensures ∙ some)).0 in
     let fits = sym (by_limits (said_by c.args.m)) ∙ sym c.too_large.ensures ∙ c.if-too_large.false in
     let e = an_iam_lem _ _ _ _ _ (sym c.bad_group.ensures ∙ c.if-bad_group.false) c.if-m-gt-LAST_CIC.false heading fits c.if-m-eq-IAM.true ∙ sym (rw c.label_to-label.ensures at c.write_iam.ensures) in
     record { answers = answer_of e; leaves = buffer_of e }
@@ -46,14 +47,14 @@ returns-then-m-eq-IAM c =
 pub write_short-requires : goal.write_short-requires
 write_short-requires c =
     let some : c.fixed_length.result ≡ Some c.in_ok-fixed.fixed = search rules in
-    let heading = listed_so c.args.m.heading _ (sym c.fixed_length.ensures ∙ some) in
+    let heading = a_length c.args.m.heading _ (sym c.fixed_length.ensures ∙ some) in
     let fits = fitting _ (sym (by_limits (said_by c.args.m)) ∙ sym c.too_large.ensures ∙ c.if-too_large.false) in
     (heading.0, ne_eqb _ _ c.if-m-eq-IAM.false, fits.0, heading.1)
 
 pub returns : goal.returns
 returns c =
     let some : c.fixed_length.result ≡ Some c.in_ok-fixed.fixed = search rules in
-    let heading = (listed_so c.args.m.heading _ (sym c.fixed_length.ensures ∙ some)).0 in
+    let heading = (a_length c.args.m.heading _ (sym c.fixed_length.ensures ∙ some)).0 in
     let fits = sym (by_limits (said_by c.args.m)) ∙ sym c.too_large.ensures ∙ c.if-too_large.false in
     let e = no_iam _ _ _ _ _ (sym c.bad_group.ensures ∙ c.if-bad_group.false) c.if-m-gt-LAST_CIC.false heading fits c.if-m-eq-IAM.false ∙ sym (rw c.label_to-label.ensures at c.write_short.ensures) in
     record { answers = answer_of e; leaves = buffer_of e }
