@@ -6,7 +6,7 @@ use mathlib.Core.List.{List}
 use Prim.Native.Nat.{ℕ, suc, ◌+◌, ◌%◌, ◌<◌, ◌≤◌}
 use native.Mathlib.Omega.{arith}
 use lib.Dec.{T, eqb, leb, ltb, eqb→eq, leb→le, ltb→lt, lt→ltb, not_T}
-use borrow.Author.Tests.{ltb-true, not-true, not-false, eqb-true, eqb-false, ne_eqb, leb-false, le-leb}
+use borrow.Author.Tests.{ltb-true, not-true, not-false, eqb-true, eqb-false, eq-eqb, ne_eqb, leb-false, le-leb}
 use lib.ListN.{length}
 use Rattle.circuit.specs.Groups.{bad_group, by_parity, controls}
 use Rattle.circuit.proofs.Every.{left, right, both}
@@ -64,10 +64,10 @@ module _ (table : List ℕ) (i n : ℕ) {s : Stored} (all : n ≤ records_in (le
   read : s ≡ stored (state_at table i) (flags_at table i) (rank_at table i)
   read = e ∙ stored_in table i (omega arith)
 
-  pub judged : {b : Bool} → b ≡ allowed s.state s.flags → allowed_at table i ≡ b
+  pub judged : {b : Bool} → b ≡ allowed s.held.state s.held.flags → allowed_at table i ≡ b
   judged d = sym (rw read at d)
 
-  pub free_at : {b : Bool} → b ≡ free s.state s.flags → free (state_at table i) (flags_at table i) ≡ b
+  pub free_at : {b : Bool} → b ≡ free s.held.state s.held.flags → free (state_at table i) (flags_at table i) ≡ b
   free_at d = sym (rw read at d)
 
   pub rank_is : s.rank ≡ rank_at table i
@@ -178,6 +178,27 @@ every_second first table {i} e l =
 
 pub same_parity : (i first : ℕ) → i % 2 ≡ first → (i + 2) % 2 ≡ first
 same_parity i first e = omega (arith, e)
+
+-- what the search of ours holds at circuit i of n, one of ours: the best of ours before it, o with rank p
+pub record Ours (first : ℕ) (table : List ℕ) (n i o p : ℕ) : Type 0 where
+  pub parity : i % 2 ≡ first
+  pub within : o < n
+  pub led : Led (by_parity first) table i o p
+
+module _ (first : ℕ) (table : List ℕ) {n i o p : ℕ} (w : Ours first table n i o p) where
+  -- a circuit that does not qualify
+  pub ours_busy : free (state_at table i) (flags_at table i) ≡ false → Ours first table n (i + 2) o p
+  ours_busy e = record { parity = same_parity i first w.parity; within = w.within; led = every_second first table w.parity (led_busy (by_parity first) table w.led e) }
+
+  -- one that does
+  module _ (h : i < n) (is : free (state_at table i) (flags_at table i) ≡ true) (rank : ℕ) (r : rank ≡ rank_at table i) (used : rank ≡ 0 → ⊥) where
+    pub ours_new : rank < p → Ours first table n (i + 2) i rank
+    ours_new l =
+        record { parity = same_parity i first w.parity; within = h; led = every_second first table w.parity (led_new (by_parity first) table w.led is (eq-eqb _ _ w.parity) rank r used l) }
+
+    pub ours_stay : p ≤ rank → Ours first table n (i + 2) o p
+    ours_stay l =
+        record { parity = same_parity i first w.parity; within = w.within; led = every_second first table w.parity (led_stays (by_parity first) table w.led is (eq-eqb _ _ w.parity) rank r used l) }
 
 -- what the search holds then: none of ours qualifies, the best of theirs, and no bad record yet
 pub record Scanned (mine : ℕ → Bool) (table : List ℕ) (n i t q : ℕ) : Type 0 where
@@ -293,3 +314,7 @@ module _ (mine : ℕ → Bool) (table : List ℕ) where
   pub led_end : {i o p : ℕ} → Led mine table i o p → (n : ℕ) → n ≤ i → o < n → taken o n ≡ sought mine table n
   led_end {i} {o} {p} l n past below =
       sym (choice_ours n o n (record { below = below; is = l.best.is; goes_first = λ j h t. l.best.goes_first j (omega arith) t }) (rw (none_of n (stops mine table) (λ j h. l.on j (omega arith)))))
+
+-- the whole table, where every second circuit was ours
+pub ours_end : (first : ℕ) (table : List ℕ) {n i o p : ℕ} → Ours first table n i o p → n ≤ i → taken o n ≡ sought (by_parity first) table n
+ours_end first table {n} w past = led_end (by_parity first) table w.led n past w.within

@@ -53,14 +53,20 @@ fn ours_from(table: &[u8], from: u32, best: u32, rank: u64, records: u32) -> Cho
             continue;
         }
         if at.rank == 0 {
-            return Choice { cic: Cic(i), looked: i + 1 };
+            return Choice {
+                cic: Cic(i),
+                looked: i + 1,
+            };
         }
         if at.rank < lowest {
             chosen = i;
             lowest = at.rank;
         }
     }
-    Choice { cic: Cic(chosen), looked: records }
+    Choice {
+        cic: Cic(chosen),
+        looked: records,
+    }
 }
 
 // None of ours qualified; `theirs` is their best, or `records` if there is none.
@@ -70,7 +76,10 @@ fn conclude(theirs: u32, records: u32) -> Result<Choice, Refusal>
     if theirs == records {
         Err(Refusal::NoCircuit)
     } else {
-        Ok(Choice { cic: Cic(theirs), looked: records })
+        Ok(Choice {
+            cic: Cic(theirs),
+            looked: records,
+        })
     }
 }
 
@@ -95,7 +104,10 @@ fn search(first: u32, table: &[u8], records: u32) -> Result<Choice, Refusal>
                 return Err(Refusal::BadRecord);
             }
             if at.rank == 0 {
-                return Ok(Choice { cic: Cic(i), looked: i + 1 });
+                return Ok(Choice {
+                    cic: Cic(i),
+                    looked: i + 1,
+                });
             }
             return Ok(ours_from(table, i + 2, i, at.rank, records));
         }

@@ -5,11 +5,11 @@ use Rattle.select.proofs.allowed_from.Goals as goal
 
 pub returns-then-not-allowed : goal.returns-then-not-allowed
 returns-then-not-allowed c =
-    good_not _ _ c.loop-i.invariant c.loop-i-test.true (judged _ _ _ c.requires c.loop-i-test.true c.stored_at-at.ensures c.if-not-allowed.ensures)
+    good_not _ _ c.loop-i.invariant c.loop-i-test.true (judged _ _ _ c.requires c.loop-i-test.true c.stored_at.ensures c.if-not-allowed.ensures)
 
 pub loop-i-preserved : goal.loop-i-preserved
 loop-i-preserved c =
-    good_next _ _ c.loop-i.invariant (judged _ _ _ c.requires c.loop-i-test.true c.stored_at-at.ensures c.if-not-allowed.ensures)
+    good_next _ _ c.loop-i.invariant (judged _ _ _ c.requires c.loop-i-test.true c.stored_at.ensures c.if-not-allowed.ensures)
 
 pub returns : goal.returns
 returns c = good_end _ _ c.loop-i.invariant c.loop-i-test.false

@@ -5,8 +5,7 @@ use Rattle.select.proofs.Searching.{no_group, in_group}
 use Rattle.select.proofs.select.Goals as goal
 
 pub returns-then-bad_group : goal.returns-then-bad_group
-returns-then-bad_group c =
-    c.refused.ensures ∙ no_group _ _ _ (rw c.records-records.ensures at (sym c.if-bad_group.ensures))
+returns-then-bad_group c = no_group _ _ _ (rw c.records-records.ensures at (sym c.if-bad_group.ensures))
 
 pub returns : goal.returns
 returns c =
