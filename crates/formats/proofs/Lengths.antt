@@ -1,7 +1,7 @@
 -- How long a message is, by its heading: the cases of `fixed_length`.
 -- Assumes nothing.
 use Rattle.std.specs.Prelude.{Option, Some, None}
-use Rattle.std.proofs.lemmas.Option.{none-some, same_Some}
+use Rattle.std.proofs.lemmas.Option.{cond_some, none-some}
 use mathlib.Core.Path.{◌≡◌, refl, sym, ap, ◌∙◌, subst}
 use mathlib.Core.Bool.{Bool, true, false, cond}
 use mathlib.Core.List.{List, [], ◌∷◌}
@@ -29,24 +29,21 @@ by_set h low = alike_same _ _ (at_below 256 (λ h. alike (in_set h) (listed h)) 
 pub six_or_more : (h : ℕ) → 6 ≤ fixed_length h
 six_or_more h = omega arith
 
+-- what is given only where a test holds is missing where it does not
+pub missing : (b : Bool) (n : ℕ) → cond b (Some n) None ≡ None → b ≡ false
+missing true n e = absurd (none-some n (sym e))
+missing false n e = refl
+
 -- a heading of no length is one that is not listed, and a heading with a length is listed
 module _ (h : ℕ) where
-  abbrev length_if : Bool → Option ℕ
+  abbrev pub length_if : Bool → Option ℕ
   length_if b = cond b (Some (fixed_length h)) None
 
   pub no_length : length_if (listed h) ≡ None → listed h ≡ false
-  no_length e = go (listed h) e
-    where
-      go : (b : Bool) → length_if b ≡ None → b ≡ false
-      go true q = absurd (none-some _ (sym q))
-      go false q = refl
+  no_length e = missing (listed h) _ e
 
-  pub a_length : (n : ℕ) → length_if (listed h) ≡ Some n → (listed h ≡ true) × (n ≡ fixed_length h)
-  a_length n e = go (listed h) e
-    where
-      go : (b : Bool) → length_if b ≡ Some n → (b ≡ true) × (n ≡ fixed_length h)
-      go true q = (refl, sym (same_Some _ _ q))
-      go false q = absurd (none-some _ q)
+  pub a_length : (n : ℕ) → length_if (listed h) ≡ Some n → (listed h ≡ true) × (fixed_length h ≡ n)
+  a_length n e = cond_some (listed h) _ n e
 
 -- a heading that is listed is an octet
 failure_octet : (f : Failure) → failure_heading f < 256

@@ -14,18 +14,26 @@ use Rattle.circuit.specs.declared.Cic.{Cic}
 use Rattle.reader.specs.Told.{Told, no_codes, refused}
 use Rattle.formats.specs.Format.{Format, octets_for, field_octet, signal_octet, CATEGORY, INDICATORS, COUNT, above, get_each, content_in}
 use Rattle.formats.specs.Messages.{iam_format, among_own, own_formats, headed, format_of, has_signals, fixed_length, listed, is_iam, is_acm, half}
-use Rattle.formats.specs.Octets.{bad_code, bad_codes, first_bad, short}
+use Rattle.formats.specs.Octets.{bad_codes, first_bad, short}
 use Rattle.formats.specs.Way.{halves}
 use Rattle.formats.proofs.ByHeading.{an_acm, neither, signals_of_iam, iam_octets, signal_octets, fixed_lengths}
 use Rattle.formats.proofs.Places.{dpc_there, opc_there, cic_there, heading_there, acm_there, category_there, indicators_there, count_there, behind_iam, signals_there}
-use Rattle.formats.proofs.Signals.{some_before}
-use Rattle.formats.proofs.Lengths.{no_length, a_length, the_length}
+use Rattle.formats.proofs.Lengths.{length_if, missing, no_length, a_length}
+use Rattle.std.proofs.lemmas.Option.{cond_some}
+use Rattle.std.specs.Prelude.{Option, Some, None}
 use Rattle.words.specs.Octets.{number_of, over}
 use Rattle.reader.specs.Faults.{fault}
 use Rattle.reader.specs.Places.{cic_in, heading_in, field_by, signals_by}
 use Rattle.reader.specs.Reading.{elsewhere, unfit, stray_octet, body_faults, fields_from, fields_in, judged, fields_of}
 use Rattle.reader.specs.Way.{body_of}
 use Rattle.reader.proofs.Signals.{length_halves}
+
+-- a message by its fields: without fields of its own but ACM's octet, and an IAM
+abbrev pub plain_fields : (circuit : Cic) → (heading acm : ℕ) → Told
+plain_fields circuit heading acm = record { refusal = 0; place = 0; circuit = circuit; heading = heading; acm = acm; category = 0; indicators = 0; count = 0; address = no_codes }
+
+abbrev pub iam_fields : (circuit : Cic) → (category indicators count : ℕ) → (address : List ℕ) → Told
+iam_fields circuit category indicators count address = record { refusal = 0; place = 0; circuit = circuit; heading = 0x11; acm = 0; category = category; indicators = indicators; count = count; address = address }
 
 -- the reader's last seven tests, and the places that are not the same for every message
 module _ (f : Told) (len counts spoils : ℕ) (b₀ b₁ b₂ b₃ b₄ b₅ b₆ : Bool) where
@@ -112,34 +120,37 @@ module _ (records h : ℕ) (xs : List ℕ) (other : is_iam h ≡ false) where
       at7 (fields_in h xs) (length xs) c₂ c₄ (not (listed h)) (unfit h (length xs)) o₂ o₃ o₄ o₅ (leb records (cic_in xs)) (ap not e) (fit ∙ ap not (eq-eqb _ _ n)) (never _) (never _) (never _) (never _) (lt-leb _ _ r)
 
 -- the same where the length was looked up
-module _ (records h : ℕ) (xs : List ℕ) (octets : (i : ℕ) → get_or xs i 0 < 256) (differs : h ≡ 0x11 → ⊥) (fixed : ℕ) (is : fixed ≡ cond (listed h) (fixed_length h) 0) where
+module _ (records h : ℕ) (xs : List ℕ) (octets : (i : ℕ) → get_or xs i 0 < 256) (differs : h ≡ 0x11 → ⊥) where
   other : is_iam h ≡ false
   other = ne_eqb h 0x11 differs
 
-  pub looked_none : fixed ≡ 0 → body_of records h xs ≡ refused 9 5
-  looked_none e = unlisted records h xs other (no_length h (sym is ∙ e))
+  pub looked_none : length_if h (listed h) ≡ None → body_of records h xs ≡ refused 9 5
+  looked_none e = unlisted records h xs other (no_length h e)
 
-  module _ (some : fixed ≡ 0 → ⊥) where
+  module _ (fixed : ℕ) (is : length_if h (listed h) ≡ Some fixed) where
     known : listed h ≡ true
-    known = a_length h (λ e. some (is ∙ e))
+    known = (a_length h fixed is).0
+
+    fits : fixed_length h ≡ fixed
+    fits = (a_length h fixed is).1
 
     pub looked_long : (length xs ≡ fixed → ⊥) → body_of records h xs ≡ refused 7 (length xs)
-    looked_long n = long records h xs other known (λ e. n (e ∙ sym (the_length h fixed is known)))
+    looked_long n = long records h xs other known (λ e. n (e ∙ fits))
 
-    module _ (n : length xs ≡ fixed) (circuit : ℕ) (k : circuit ≡ cic_in xs) where
-      pub looked_beyond : records ≤ circuit → body_of records h xs ≡ refused 2 3
-      looked_beyond r = beyond records h xs other known (n ∙ the_length h fixed is known) (rw k at r)
+    module _ (n : length xs ≡ fixed) (circuit : Cic) (k : circuit.0 ≡ cic_in xs) where
+      pub looked_beyond : records ≤ circuit.0 → body_of records h xs ≡ refused 2 3
+      looked_beyond r = beyond records h xs other known (n ∙ sym fits) (rw k at r)
 
-      module _ (r : circuit < records) where
+      module _ (r : circuit.0 < records) where
         -- by the format that the heading has
         plainly : (f : Format) → among_own h own_formats ≡ f → body_of records h xs ≡ fields_from h (content_in (headed f) xs)
-        plainly f e = taken records h xs other known (n ∙ the_length h fixed is known) (rw k at r) ∙ ap (λ (f : Format). fields_from h (content_in (headed f) xs)) e
+        plainly f e = taken records h xs other known (n ∙ sym fits) (rw k at r) ∙ ap (λ (f : Format). fields_from h (content_in (headed f) xs)) e
 
         pub looked_acm : h ≡ 0x14 → body_of records h xs ≡ plain_fields circuit h (get_or xs 6 0 % 64)
-        looked_acm e = plainly _ (an_acm h (eq-eqb h 0x14 e)) ∙ ap (plain_fields (cic_in xs) h) (acm_there xs octets) ∙ ap (λ (v : ℕ). plain_fields v h (get_or xs 6 0 % 64)) (sym k)
+        looked_acm e = plainly _ (an_acm h (eq-eqb h 0x14 e)) ∙ ap (plain_fields (record { 0 = cic_in xs }) h) (acm_there xs octets) ∙ ap (λ (v : ℕ). plain_fields (record { 0 = v }) h (get_or xs 6 0 % 64)) (sym k)
 
         pub looked_plain : (h ≡ 0x14 → ⊥) → body_of records h xs ≡ plain_fields circuit h 0
-        looked_plain e = plainly _ (neither h other (ne_eqb h 0x14 e)) ∙ ap (λ (v : ℕ). plain_fields v h 0) (sym k)
+        looked_plain e = plainly _ (neither h other (ne_eqb h 0x14 e)) ∙ ap (λ (v : ℕ). plain_fields (record { 0 = v }) h 0) (sym k)
 
 -- an IAM
 module _ (records : ℕ) (xs : List ℕ) where
@@ -269,20 +280,19 @@ module _ (records : ℕ) (xs : List ℕ) (w : ℕ) (codes : List ℕ) (k : Spelt
   the_address = ap (take c) k.signals ∙ take_at (take c (halves (drop 9 xs))) (drop (length (take c (halves (drop 9 xs)))) no_codes) c how_many ∙ sym there
 
   -- the first signal that is refused, as the program looks for it
-  module _ (bad : ℕ) (first : bad ≡ first_bad (take c codes)) where
-    sooner : bad_codes (address records xs) ≡ ltb bad c
-    sooner = sym (ap bad_codes the_address) ∙ some_before bad_code (take c codes) ∙ ap₂ ltb (sym first) (sym prefix)
+  abbrev pub looked : Option ℕ
+  looked = cond (bad_codes (take c codes)) (Some (first_bad (take c codes))) None
 
-    its_octet : s₄ records xs ≡ 9 + bad / 2
-    its_octet = ap (λ (l : List ℕ). signal_octet (format_of 0x11) (first_bad l)) (sym the_address) ∙ ap (signal_octet (format_of 0x11)) (sym first) ∙ signal_octets bad
+  pub spoilt : (bad : ℕ) → looked ≡ Some bad → body_of records 0x11 xs ≡ refused 10 (9 + bad / 2)
+  spoilt bad e =
+      iam_codes records xs k.nine z whole (sym (ap bad_codes the_address) ∙ (cond_some _ _ _ e).0)
+      ∙ ap (refused 10) (ap (λ (l : List ℕ). signal_octet (format_of 0x11) (first_bad l)) (sym the_address) ∙ ap (signal_octet (format_of 0x11)) (cond_some _ _ _ e).1 ∙ signal_octets bad)
 
-    pub spoilt : bad < c → body_of records 0x11 xs ≡ refused 10 (9 + bad / 2)
-    spoilt b = iam_codes records xs k.nine z whole (sooner ∙ lt-ltb _ _ b) ∙ ap (refused 10) its_octet
-
+  module _ (none : looked ≡ None) where
     -- and whether the number is short, as it asks that
-    module _ (b : c ≤ bad) (few : Bool) (is : few ≡ short (w % 2048) (take c codes)) where
+    module _ (few : Bool) (is : few ≡ short (w % 2048) (take c codes)) where
       unspoilt : bad_codes (address records xs) ≡ false
-      unspoilt = sooner ∙ le-ltb _ _ b
+      unspoilt = sym (ap bad_codes the_address) ∙ missing _ _ none
 
       asked : short (indicated records xs) (address records xs) ≡ few
       asked = ap₂ short (told records xs k.octets w k.word) (sym the_address) ∙ sym is

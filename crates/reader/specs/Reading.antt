@@ -1,6 +1,6 @@
 -- What the reader answers (docs/RULES.md, "Messages on the link" and "Refusals").
 -- Assumes nothing.
-use Rattle.std.specs.Prelude.{Bool, cond, not, ◌&&◌, ◌||◌, List, [], ◌∷◌, ℕ, eqb, leb, ltb, length, replicate}
+use Rattle.std.specs.Prelude.{Bool, cond, not, ◌&&◌, ◌||◌, List, [], ◌∷◌, ℕ, eqb, leb, ltb, length}
 use Rattle.circuit.specs.Groups.{bad_group}
 use Rattle.circuit.specs.Refusals.{Rule}
 use Rattle.formats.specs.Octets.{bad_codes, first_bad, short}

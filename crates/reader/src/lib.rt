@@ -107,7 +107,10 @@ fn read_iam(records: usize, circuit: Cic, octets: &[u8]) -> Result<Fields, Fault
     }
     let address = codes_in(octets, count);
     if let Some(bad) = formats::first_bad(&address[..count]) {
-        return Err(Fault::new(Refusal::WrongAddress, (formats::IAM_OCTETS + bad / 2) as u64));
+        return Err(Fault::new(
+            Refusal::WrongAddress,
+            (formats::IAM_OCTETS + bad / 2) as u64,
+        ));
     }
     let indicators = (word % SPARE_INDICATOR) as u32;
     if formats::short(indicators, &address[..count]) {
@@ -133,7 +136,7 @@ fn read_body(records: usize, circuit: Cic, octets: &[u8]) -> Result<Fields, Faul
     ensures { told result ≡ body_of records (get_or octets.now 5 0) octets.now }
 {
     let heading = octets[5];
-    if u32::from(heading) == formats::IAM {
+    if heading == formats::IAM as u8 {
         return read_iam(records, circuit, octets);
     }
     let Some(fixed) = formats::fixed_length(u32::from(heading)) else {
@@ -145,15 +148,28 @@ fn read_body(records: usize, circuit: Cic, octets: &[u8]) -> Result<Fields, Faul
     if records <= circuit.0 as usize {
         return Err(Fault::new(Refusal::NoSuchCircuit, formats::CIC_OCTET));
     }
-    let acm = if u32::from(heading) == formats::ACM { octets[6] % SPARE_BITS } else { 0 };
-    Ok(Fields { circuit, heading, acm, category: 0, indicators: 0, count: 0, address: [0; 15] })
+    let acm = if heading == formats::ACM as u8 {
+        octets[6] % SPARE_BITS
+    } else {
+        0
+    };
+    Ok(Fields {
+        circuit,
+        heading,
+        acm,
+        category: 0,
+        indicators: 0,
+        count: 0,
+        address: [0; 15],
+    })
 }
 
 // Whether a label is not for us from the far end.
 fn elsewhere(codes: Codes, label: u64) -> bool
     ensures { result ≡ (not (eqb (label % 2 ^ 14) codes.own.0) || not (eqb (label / 2 ^ 14 % 2 ^ 14) codes.far.0)) }
 {
-    label % formats::OPC_PLACE != u64::from(codes.own.0) || label / formats::OPC_PLACE % formats::OPC_PLACE != u64::from(codes.far.0)
+    label % formats::OPC_PLACE != u64::from(codes.own.0)
+        || label / formats::OPC_PLACE % formats::OPC_PLACE != u64::from(codes.far.0)
 }
 
 // Where such a label is wrong: at DPC, and where that is right at OPC.
@@ -177,7 +193,9 @@ pub fn read_fields(codes: Codes, records: usize, octets: &[u8]) -> Result<Fields
     if octets.len() < formats::PLAIN_OCTETS {
         return Err(wrong_length(octets));
     }
-    let label = words::number(octets[0], octets[1], octets[2], octets[3], octets[4], 0, 0, 0);
+    let label = words::number(
+        octets[0], octets[1], octets[2], octets[3], octets[4], 0, 0, 0,
+    );
     if elsewhere(codes, label) {
         return Err(Fault::new(Refusal::WrongLabel, stray_octet(codes, label)));
     }
@@ -188,7 +206,22 @@ pub fn read_fields(codes: Codes, records: usize, octets: &[u8]) -> Result<Fields
 pub fn read(codes: Codes, records: usize, octets: &[u8]) -> Result<Message, Fault>
     ensures { told_message result ≡ reading codes.own.0 codes.far.0 records octets.now }
 {
-    let Fields { circuit, heading, acm, category, indicators, count, address } = read_fields(codes, records, octets)?;
+    let Fields {
+        circuit,
+        heading,
+        acm,
+        category,
+        indicators,
+        count,
+        address,
+    } = read_fields(codes, records, octets)?;
     let signal = codes::signal_of(u32::from(heading), acm).unwrap();
-    Ok(Message { circuit, signal, category, indicators, count, address })
+    Ok(Message {
+        circuit,
+        signal,
+        category,
+        indicators,
+        count,
+        address,
+    })
 }

@@ -9,7 +9,7 @@ returns-then-octets-lt-IAM_OCTETS c = c.wrong_length.ensures ∙ sym (iam_cut _ 
 
 pub returns-then-count-eq0 : goal.returns-then-count-eq0
 returns-then-count-eq0 c =
-    c.refused.ensures
+    c.new.ensures
     ∙ sym (empty _ _ (λ i. (c.type_inv.octets i).fits) _ c.number-word.ensures c.if-octets-lt-IAM_OCTETS.false c.if-count-eq0.true)
 
 pub returns-then-octets-count : goal.returns-then-octets-count
@@ -17,53 +17,51 @@ returns-then-octets-count c =
     c.wrong_length-then-octets-count.ensures
     ∙ sym (too_long _ _ (λ i. (c.type_inv.octets i).fits) _ c.number-word.ensures c.if-octets-lt-IAM_OCTETS.false c.if-count-eq0.false c.if-octets-count.true)
 
-pub returns-then-bad-count : goal.returns-then-bad-count
-returns-then-bad-count c =
-    let spelt : Spelt c.args.octets.now c.number-word.result c.codes_in-codes.result = record {
+pub returns-in-Some : goal.returns-in-Some
+returns-in-Some c =
+    let spelt : Spelt c.args.octets.now c.number-word.result c.codes_in-address.result = record {
       octets = λ i. (c.type_inv.octets i).fits;
       word = c.number-word.ensures;
       nine = c.if-octets-lt-IAM_OCTETS.false;
       some = c.if-count-eq0.false;
       long = c.if-octets-count.false;
-      signals = c.codes_in-codes.ensures;
+      signals = c.codes_in-address.ensures;
     } in
-    c.refused-then-bad-count.ensures ∙ sym (spoilt _ _ _ _ spelt _ c.first_bad-bad.ensures c.if-bad-count.true)
+    c.new-in-Some.ensures ∙ sym (spoilt _ _ _ _ spelt _ (sym c.first_bad.ensures ∙ c.in-Some.is))
 
 pub returns-then-short : goal.returns-then-short
 returns-then-short c =
-    let spelt : Spelt c.args.octets.now c.number-word.result c.codes_in-codes.result = record {
+    let spelt : Spelt c.args.octets.now c.number-word.result c.codes_in-address.result = record {
       octets = λ i. (c.type_inv.octets i).fits;
       word = c.number-word.ensures;
       nine = c.if-octets-lt-IAM_OCTETS.false;
       some = c.if-count-eq0.false;
       long = c.if-octets-count.false;
-      signals = c.codes_in-codes.ensures;
+      signals = c.codes_in-address.ensures;
     } in
-    c.refused-then-short.ensures
-    ∙ sym (too_few _ _ _ _ spelt _ c.first_bad-bad.ensures c.if-bad-count.false _ c.short.ensures c.if-short.true)
+    c.new-then-short.ensures ∙ sym (too_few _ _ _ _ spelt (sym c.first_bad.ensures ∙ c.in_default.is) _ c.short.ensures c.if-short.true)
 
 pub returns-then-records-circuit : goal.returns-then-records-circuit
 returns-then-records-circuit c =
-    let spelt : Spelt c.args.octets.now c.number-word.result c.codes_in-codes.result = record {
+    let spelt : Spelt c.args.octets.now c.number-word.result c.codes_in-address.result = record {
       octets = λ i. (c.type_inv.octets i).fits;
       word = c.number-word.ensures;
       nine = c.if-octets-lt-IAM_OCTETS.false;
       some = c.if-count-eq0.false;
       long = c.if-octets-count.false;
-      signals = c.codes_in-codes.ensures;
+      signals = c.codes_in-address.ensures;
     } in
-    c.refused-then-records-circuit.ensures
-    ∙ sym (no_circuit _ _ _ _ spelt _ c.first_bad-bad.ensures c.if-bad-count.false _ c.short.ensures c.if-short.false (rw c.requires at c.if-records-circuit.true))
+    c.new-then-records-circuit.ensures
+    ∙ sym (no_circuit _ _ _ _ spelt (sym c.first_bad.ensures ∙ c.in_default.is) _ c.short.ensures c.if-short.false (rw c.requires at c.if-records-circuit.true))
 
 pub returns : goal.returns
 returns c =
-    let spelt : Spelt c.args.octets.now c.number-word.result c.codes_in-codes.result = record {
+    let spelt : Spelt c.args.octets.now c.number-word.result c.codes_in-address.result = record {
       octets = λ i. (c.type_inv.octets i).fits;
       word = c.number-word.ensures;
       nine = c.if-octets-lt-IAM_OCTETS.false;
       some = c.if-count-eq0.false;
       long = c.if-octets-count.false;
-      signals = c.codes_in-codes.ensures;
+      signals = c.codes_in-address.ensures;
     } in
-    c.iam_fields.ensures
-    ∙ sym (read_whole _ _ _ _ spelt _ c.first_bad-bad.ensures c.if-bad-count.false _ c.short.ensures c.if-short.false c.args.circuit c.requires c.if-records-circuit.false)
+    sym (read_whole _ _ _ _ spelt (sym c.first_bad.ensures ∙ c.in_default.is) _ c.short.ensures c.if-short.false c.args.circuit c.requires c.if-records-circuit.false)
