@@ -4,7 +4,7 @@
 -- Assumes nothing.
 use Rattle.std.specs.Prelude.{cond, List, ℕ, ◌+◌, eqb, ltb, length, take, drop}
 use Rattle.formats.specs.Messages.{iam_heading, acm_heading}
-use Rattle.reader.specs.declared.Fields.{Fields}
+use Rattle.reader.specs.Told.{Told}
 use Rattle.reader.specs.Reading.{fields_of}
 use Rattle.text.specs.Lines.{refused_line, plain_line, acm_line, iam_line}
 use Rattle.records.specs.Records.{octet}
@@ -12,18 +12,18 @@ use Rattle.parts.specs.declared.Running.{Running}
 use Rattle.parts.specs.Whole.{Ahead, Ahead.Takes, Ahead.Partial, Ahead.AtEnd, Making, Stateless, no_state, whole}
 
 -- the line of an IAM, with as many address signals as it has
-abbrev pub iam_line_of : ℕ → Fields → List ℕ
+abbrev pub iam_line_of : ℕ → Told → List ℕ
 iam_line_of ordinal f = iam_line ordinal f.circuit.0 f.heading f.category f.indicators (take f.count f.address)
 
 -- the line of a message that was read, by its heading
-unfoldable pub read_line : ℕ → Fields → List ℕ
+unfoldable pub read_line : ℕ → Told → List ℕ
 read_line ordinal f =
     cond (eqb f.heading iam_heading) (iam_line_of ordinal f)
     (cond (eqb f.heading acm_heading) (acm_line ordinal f.circuit.0 f.heading f.acm)
     (plain_line ordinal f.circuit.0 f.heading))
 
 -- the line of what the reader answers
-unfoldable pub message_line : ℕ → Fields → List ℕ
+unfoldable pub message_line : ℕ → Told → List ℕ
 message_line ordinal f = cond (eqb f.refusal 0) (read_line ordinal f) (refused_line ordinal f.refusal f.place)
 
 -- the octets of the message at the start: so many as the first octet says, behind it
@@ -31,8 +31,8 @@ abbrev pub message_in : List ℕ → List ℕ
 message_in s = take (octet s 0) (drop 1 s)
 
 -- what the reader answers on it, in the group of the file
-abbrev pub fields_at : Running → List ℕ → Fields
-fields_at r s = fields_of r.own.0 r.far.0 r.circuits (message_in s)
+abbrev pub fields_at : Running → List ℕ → Told
+fields_at r s = fields_of r.group.codes.own.0 r.group.codes.far.0 r.group.circuits (message_in s)
 
 -- what stands ahead: a message that is there whole, behind its length, has its line, refused or not
 unfoldable pub ahead_in : Running → List ℕ → Ahead Stateless

@@ -2,123 +2,95 @@
 // for each message is written into lent room.
 #![tactic(auto)]
 
-ghost use Rattle.std.specs.Prelude.{◌≡◌, ◌≤◌, length};
+ghost use Rattle.std.specs.Prelude.{◌≡◌, ◌+◌, ◌<◌, ◌≤◌, ◌↔◌, length, IsNone, IfSome, Ok};
 ghost use Rattle.words.specs.Octets.{over};
 ghost use Rattle.text.specs.Writing.{Printed, in_room};
-ghost use Rattle.parts.specs.Whole.{no_state};
-ghost use Rattle.parts.specs.Feed.{share_of, share, answer_of, fed};
-ghost use Rattle.parts.specs.Way.{Lands, Ran};
-ghost use Rattle.messages.specs.Listing.{iam_line_of, read_line, message_line, ahead_in, per_message};
-ghost use Rattle.messages.specs.Way.{whole_octets};
+ghost use Rattle.reader.specs.Told.{told};
+ghost use Rattle.reader.specs.Reading.{fields_of};
+ghost use Rattle.records.specs.Records.{octet};
+ghost use Rattle.parts.specs.Whole.{Stateless, no_state};
+ghost use Rattle.parts.specs.Feed.{answer_of, fed};
+ghost use Rattle.messages.specs.Listing.{iam_line_of, read_line, message_line, message_in, per_message};
+ghost use Rattle.messages.proofs.Laws.{lawful};
 
-use parts::{Fed, Running, Stage, Turn};
+use parts::{Fed, Kind, Running, Stage, Turn};
 use reader::Fields;
+use records::Group;
+
+// A file of messages is one kind of file: its records are messages, and nothing goes along from one to the next.
+pub struct Listing;
 
 // The line of an IAM.
 fn iam_line(room: &mut [u8], ordinal: u64, f: Fields) -> usize
     requires { f.count ≤ length f.address }
-    ensures { Printed room.old (in_room room.old (iam_line_of ordinal f)) result room.new }
+    ensures { Printed room.old (in_room room.old (iam_line_of ordinal (told (Ok f)))) result room.new }
 {
-    let circuit = f.circuit;
-    let address = f.address;
-    let count = f.count as usize;
+    let count = usize::from(f.count);
     text::iam_line(
         room,
         ordinal,
-        circuit.0,
+        f.circuit.0,
         f.heading,
         f.category,
         f.indicators,
-        &address[..count],
+        &f.address[..count],
     )
 }
 
 // The line of a message that was read.
 fn read_line(room: &mut [u8], ordinal: u64, f: Fields) -> usize
     requires { f.count ≤ length f.address }
-    ensures { Printed room.old (in_room room.old (read_line ordinal f)) result room.new }
+    ensures { Printed room.old (in_room room.old (read_line ordinal (told (Ok f)))) result room.new }
 {
     if f.heading == formats::IAM as u8 {
         return iam_line(room, ordinal, f);
     }
-    let circuit = f.circuit;
     if f.heading == formats::ACM as u8 {
-        return text::acm_line(room, ordinal, circuit.0, f.heading, f.acm);
+        return text::acm_line(room, ordinal, f.circuit.0, f.heading, f.acm);
     }
-    text::plain_line(room, ordinal, circuit.0, f.heading)
+    text::plain_line(room, ordinal, f.circuit.0, f.heading)
 }
 
-// The line of what the reader answered.
-fn message_line(room: &mut [u8], ordinal: u64, f: Fields) -> usize
-    requires { f.count ≤ length f.address }
-    ensures { Printed room.old (in_room room.old (message_line ordinal f)) result room.new }
+// The line of a message, by what the reader answers in the group of the file.
+fn message_line(room: &mut [u8], ordinal: u64, g: Group, octets: &[u8]) -> usize
+    ensures { Printed room.old (in_room room.old (message_line ordinal (fields_of g.codes.own.0 g.codes.far.0 g.circuits octets.now))) result room.new }
 {
-    if f.refusal == names::ACCEPTED {
-        return read_line(room, ordinal, f);
-    }
-    text::refused_line(room, ordinal, f.refusal, f.place)
-}
-
-// The octets of the message at the start and of its length, where it stands there whole; else none.
-fn whole_octets(part: &[u8]) -> usize
-    ensures { result ≡ whole_octets part.now }
-{
-    let octets = 1 + words::octet(part, 0, 0) as usize;
-    if part.len() < octets {
-        return 0;
-    }
-    octets
-}
-
-fn whole_message(r: Running, part: &[u8], room: &mut [u8]) -> Turn
-    requires { 132 ≤ length room.old }
-    ensures { Lands (share_of (ahead_in r part.now) no_state) room.old result no_state room.new }
-{
-    let octets = whole_octets(part);
-    if octets == 0 {
-        return parts::no_turn();
-    }
-    let own = r.own;
-    let far = r.far;
-    let f = reader::read_fields(own, far, r.circuits as usize, &part[1..octets]);
-    let written = message_line(room, r.next, f);
-    Turn {
-        taken: octets,
-        written: written,
+    match reader::read_fields(g.codes, usize::from(g.circuits), octets) {
+        Ok(f) => read_line(room, ordinal, f),
+        Err(e) => text::refused_line(room, ordinal, e.refusal as u8, e.place),
     }
 }
 
-// The message at the start, where it stands there whole, the room has a line's octets and there is a further ordinal; else none.
-fn one_message(r: Running, part: &[u8], room: &mut [u8]) -> Turn
-    ensures { Lands (share per_message r no_state part.now (length room.old)) room.old result no_state room.new }
+// The message at the start, behind the octet that says how long it is, where it stands there whole.
+fn whole_message(part: &[u8]) -> Option<&[u8]>
+    ensures none { IsNone result ↔ (length part.now < 1 + octet part.now 0) }
+    ensures message { IfSome result (λ octets. octets.now ≡ message_in part.now) }
 {
-    if parts::may_go(r, room.len()) {
-        return whole_message(r, part, room);
-    }
-    parts::no_turn()
+    let (&n, rest) = part.split_first()?;
+    rest.get(..usize::from(n))
 }
 
-// Message after message, until none can be taken.
-fn run(r: Running, part: &[u8], room: &mut [u8]) -> Fed
-    ensures { Ran per_message r no_state part.now room.old result no_state room.new }
-{
-    let mut here = r;
-    let mut at = 0;
-    let mut out = 0;
-    loop {
-        let t = one_message(here, &part[at..], &mut room[out..]);
-        if t.taken == 0 {
-            break;
-        }
-        at += t.taken;
-        out += t.written;
-        here = parts::onward(here);
+impl Kind for Listing {
+    ghost State = { Stateless };
+
+    ghost state_in = { λ lent. no_state };
+
+    ghost making = { per_message };
+
+    fn turn(_lent: &mut [u8], r: Running, part: &[u8], room: &mut [u8]) -> Option<Turn> {
+        let octets = whole_message(part)?;
+        let written = message_line(room, r.next, r.group, octets);
+        Some(Turn {
+            taken: 1 + octets.len(),
+            written,
+        })
     }
-    Fed {
-        taken: at,
-        written: out,
-        stage: Stage::Runs(here),
+
+    fn starts_none(_part: &[u8]) -> bool {
+        false
     }
+
+    ghost lawful = { lawful };
 }
 
 // The list goes on with the next part of its file, which starts at the first octet that was not taken yet.
@@ -127,10 +99,5 @@ pub fn feed(stage: Stage, part: &[u8], room: &mut [u8]) -> Fed
     ensures writes { room.new ≡ over (fed per_message stage no_state part.now (length room.old)).text room.old }
     ensures within { (result.taken ≤ length part.now) × (result.written ≤ length room.old) }
 {
-    match stage {
-        Stage::Start => parts::begin(part, room),
-        Stage::Bad => parts::stay(Stage::Bad),
-        Stage::Runs(r) => run(r, part, room),
-        Stage::Cut(next) => parts::stay(Stage::Cut(next)),
-    }
+    parts::feed::<Listing>(&mut [], stage, part, room)
 }

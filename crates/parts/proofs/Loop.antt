@@ -1,24 +1,26 @@
 -- The state of a loop that makes a run of records: where it starts, what a record changes, and what it comes to.
 -- Assumes nothing.
 use mathlib.Core.Path.{◌≡◌, refl, ap, sym, subst, ◌∙◌}
-use mathlib.Core.Bool.{cond}
+use mathlib.Core.Bool.{Bool, cond}
 use mathlib.Core.List.{List, ◌++◌, append-nil}
 use Prim.Native.Nat.{ℕ, ◌+◌, ◌-◌, ◌≤◌, ◌<◌}
 use native.Mathlib.Nat.{add-zero, zero-add, sub-zero}
 use native.Mathlib.Omega.{arith}
 use lib.Dec.{eqb}
+use Rattle.std.specs.Prelude.{Option, Some, None}
 use lib.ListN.{length, take, drop, length-append, length-drop}
 use lib.Seq.{length-take-le, drop-drop}
 use borrow.Rule.Slice.PartMut.{mid_of, put_mid, same_len_mid}
 use Rattle.words.specs.Octets.{over}
 use Rattle.words.specs.Words.{largest}
 use Rattle.parts.specs.declared.Running.{Running}
+use Rattle.parts.specs.declared.Stage.TheVariants.{Runs, Cut}
 use Rattle.parts.specs.declared.Turn.{Turn}
-use Rattle.parts.specs.Whole.{Making, Lawful, onward}
-use Rattle.parts.specs.Feed.{Part, Share, no_share, share, stage_at, stops, behind, run}
+use Rattle.parts.specs.Whole.{Ahead, Takes, NoRecord, Partial, AtEnd, Making, Lawful, onward}
+use Rattle.parts.specs.Feed.{Part, Share, no_share, share, stage_at, starts_none, stops, behind, run}
 use Rattle.parts.specs.Way.{Lands, Ran}
 use Rattle.parts.proofs.Rooms.{fits_room, up_to, from, mid_all, mid_length, put_back, written_in}
-use Rattle.parts.proofs.Turns.{goes_onward}
+use Rattle.parts.proofs.Turns.{goes_onward, Took, took, none_taken}
 use Rattle.parts.proofs.Runs.{shared, run_stops, run_goes, twice}
 
 -- where the loop of a run stands: `at` octets are taken and `out` are written, and the run from here is what is left of the whole
@@ -104,9 +106,15 @@ module _ {T : Type 0} {w : Making T} (law : Lawful w) {r₀ : Running} {t₀ : T
       within = (u.at_in, u.out_in);
     }
 
+stage_by : {T : Type 0} (a : Ahead T) (r : Running) → stage_at a r ≡ cond (starts_none a) (Cut r.next) (Runs r)
+stage_by (Takes taken text after) r = refl
+stage_by NoRecord r = refl
+stage_by Partial r = refl
+stage_by AtEnd r = refl
+
 -- the same where a function is lent the part and the room from their places on, and lands on the share of what stands there
 module _ {T : Type 0} {w : Making T} (law : Lawful w) {r₀ : Running} {t₀ : T} {part room₀ : List ℕ} {r : Running} {t : T} {room : List ℕ} {at out : ℕ} (u : Sofar w r₀ t₀ part room₀ r t room at out)
-    {turn : Turn} {t' : T} {ys : List ℕ} (l : Lands (share w r t (mid_of at (length part - at) part) (length (mid_of out (length room - out) room))) (mid_of out (length room - out) room) turn t' ys)
+    {o : Option Turn} {t' : T} {ys : List ℕ} (l : Lands (share w r t (mid_of at (length part - at) part) (length (mid_of out (length room - out) room))) (mid_of out (length room - out) room) o t' ys)
     (k : length ys ≡ length (mid_of out (length room - out) room)) where
   abbrev had : Share T
   had = share w r t (drop at part) (length room - out)
@@ -114,8 +122,8 @@ module _ {T : Type 0} {w : Making T} (law : Lawful w) {r₀ : Running} {t₀ : T
   had_in : share w r t (mid_of at (length part - at) part) (length (mid_of out (length room - out) room)) ≡ had
   had_in = rw (mid_all part at, mid_length room out)
 
-  landed : Lands had (mid_of out (length room - out) room) turn t' ys
-  landed = subst (λ (h : Share T). Lands h (mid_of out (length room - out) room) turn t' ys) had_in l
+  landed : Lands had (mid_of out (length room - out) room) o t' ys
+  landed = subst (λ (h : Share T). Lands h (mid_of out (length room - out) room) o t' ys) had_in l
 
   abbrev back : List ℕ
   back = put_mid out (length room - out) room ys
@@ -126,33 +134,32 @@ module _ {T : Type 0} {w : Making T} (law : Lawful w) {r₀ : Running} {t₀ : T
   back_keeps : length back ≡ length room
   back_keeps = same_len_mid out (length room - out) room ys k
 
-  pub back_kept : length back ≡ length room₀
-  back_kept = back_keeps ∙ u.room_kept
+  -- a record was taken
+  module _ {turn : Turn} (e : o ≡ Some turn) where
+    is : Took had turn
+    is = took had landed.answers e
 
-  taken_is : turn.taken ≡ had.taken
-  taken_is = ap (λ (q : Turn). q.taken) landed.answers
-
-  written_is : turn.written ≡ length had.text
-  written_is = ap (λ (q : Turn). q.written) landed.answers
-
-  pub back_within : (at + turn.taken ≤ length part) × (out + turn.written ≤ length room)
-  back_within = (
-    omega (arith, taken_is, u.at_in, (shared law r t (drop at part) (length room - out)).fits, length-drop at part),
-    omega (arith, written_is, u.out_in, u.room_kept, written_in room out had.text ys landed.writes k),
-  )
-
-  module _ (p : turn.taken ≡ 0 → ⊥) where
-    some : had.taken ≡ 0 → ⊥
-    some z = p (taken_is ∙ z)
+    pub back_within : (at + turn.taken ≤ length part) × (out + turn.written ≤ length room)
+    back_within = (
+      omega (arith, is.taken, u.at_in, (shared law r t (drop at part) (length room - out)).fits, length-drop at part),
+      omega (arith, is.written, u.out_in, u.room_kept, written_in room out had.text ys landed.writes k),
+    )
 
     pub back_onward : cond (eqb r.next largest) r (onward r) ≡ onward r
-    back_onward = goes_onward (w.ahead r t (drop at part)) r t (length room - out) some
+    back_onward = goes_onward (w.ahead r t (drop at part)) r t (length room - out) is.some
 
     pub back_nearer : length part - (at + turn.taken) < length part - at
-    back_nearer = rw taken_is (nearer law u back back_writes back_keeps some)
+    back_nearer = rw is.taken (nearer law u back back_writes back_keeps is.some)
 
     pub back_again : Sofar w r₀ t₀ part room₀ (onward r) t' back (at + turn.taken) (out + turn.written)
-    back_again = rw (taken_is, written_is, landed.leaves) (again law u back back_writes back_keeps some)
+    back_again = rw (is.taken, is.written, landed.leaves) (again law u back back_writes back_keeps is.some)
 
-  pub back_stopped : turn.taken ≡ 0 → Ran w r₀ t₀ part room₀ (record { taken = at; written = out; stage = stage_at (w.ahead r t (drop at part)) r }) t' back
-  back_stopped z = rw landed.leaves (stopped law u back back_writes back_keeps (sym taken_is ∙ z))
+  -- none was taken, and whether what stands there is no record says where the run stops
+  module _ (none : Bool) (e : o ≡ None) (n : (r : Running) (t : T) → none ≡ starts_none (w.ahead r t (mid_of at (length part - at) part))) where
+    stage_is : stage_at (w.ahead r t (drop at part)) r ≡ cond none (Cut r.next) (Runs r)
+    stage_is =
+        stage_by (w.ahead r t (drop at part)) r
+        ∙ ap (λ (b : Bool). cond b (Cut r.next) (Runs r)) (sym (n r t ∙ ap (λ (s : List ℕ). starts_none (w.ahead r t s)) (mid_all part at)))
+
+    pub back_stopped : Ran w r₀ t₀ part room₀ (record { taken = at; written = out; stage = cond none (Cut r.next) (Runs r) }) t' back
+    back_stopped = rw (landed.leaves, ← stage_is) (stopped law u back back_writes back_keeps (none_taken had landed.answers e))

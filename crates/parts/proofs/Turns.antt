@@ -1,20 +1,23 @@
 -- One record's turn: what it takes, and that the next ordinal follows where it takes something.
 -- Assumes nothing.
-use mathlib.Core.Path.{◌≡◌, refl}
+use mathlib.Core.Path.{◌≡◌, refl, sym, ◌∙◌}
 use mathlib.Core.Bool.{true, false, cond}
 use mathlib.Core.List.{List}
 use Prim.Native.Nat.{ℕ, ◌≤◌, ◌<◌}
 use native.Mathlib.Omega.{arith}
 use lib.Dec.{eqb, leb}
-use borrow.Author.Tests.{leb-true, ltb-true, ne_eqb}
+use lib.ListN.{length}
+use Rattle.std.specs.Prelude.{Option, Some, None}
+use borrow.Author.Tests.{leb-true, ltb-true, ne_eqb, eqb-true, eqb-false}
 use Rattle.circuit.proofs.Every.{both_hold}
 use Rattle.words.specs.Words.{largest}
 use Rattle.text.proofs.Numbers.{by_test}
 use Rattle.text.specs.Writing.{line_room}
 use Rattle.parts.specs.declared.Running.{Running}
 use Rattle.parts.specs.Whole.{Ahead, Takes, NoRecord, Partial, AtEnd, onward}
-use Rattle.parts.specs.Feed.{no_share, may_go, share_of, share_at}
-use Rattle.parts.specs.Way.{no_turn, Lands}
+use Rattle.parts.specs.Feed.{Share, no_share, may_go, share_of, share_at}
+use Rattle.parts.specs.declared.Turn.{Turn}
+use Rattle.parts.specs.Way.{turn_of, Lands}
 
 -- what stands ahead, as cases for a proof
 pub by_ahead : {T P : Type 0} (a : Ahead T) → ((n : ℕ) (x : List ℕ) (t : T) → a ≡ Takes n x t → P) → (a ≡ NoRecord → P) → (a ≡ Partial → P) → (a ≡ AtEnd → P) → P
@@ -30,8 +33,33 @@ module _ (r : Running) (n : ℕ) (e : may_go r n ≡ true) where
   ordinal_there : r.next < largest
   ordinal_there = ltb-true _ _ (both_hold (leb line_room n) e).1
 
-pub nothing_lands : {T : Type 0} (t : T) (room : List ℕ) → Lands (no_share t) room no_turn t room
+pub nothing_lands : {T : Type 0} (t : T) (room : List ℕ) → Lands (no_share t) room None t room
 nothing_lands t room = record { answers = refl; leaves = refl; writes = refl }
+
+-- what a turn tells of the share that it is of
+module _ {T : Type 0} (h : Share T) where
+  pub some_turn : (h.taken ≡ 0 → ⊥) → turn_of h ≡ Some (record { taken = h.taken; written = length h.text })
+  some_turn p = rw (ne_eqb h.taken 0 p)
+
+  pub none_taken : {o : Option Turn} → o ≡ turn_of h → o ≡ None → h.taken ≡ 0
+  none_taken e n =
+      by_test (eqb h.taken 0) (eqb-true _ _)
+      (λ z. absurd (let q : Some (record { taken = h.taken; written = length h.text }) ≡ None = sym (some_turn (eqb-false _ _ z)) ∙ sym e ∙ n in cc))
+
+  -- a record was taken, and the turn is what was
+  pub record Took (t : Turn) : Type 0 where
+    pub some : h.taken ≡ 0 → ⊥
+    pub taken : t.taken ≡ h.taken
+    pub written : t.written ≡ length h.text
+
+  pub took : {o : Option Turn} {t : Turn} → o ≡ turn_of h → o ≡ Some t → Took t
+  took {o} {t} e s =
+      by_test (eqb h.taken 0)
+      (λ z. absurd (let q : None ≡ Some t = sym (rw z) ∙ sym e ∙ s in cc))
+      (λ z.
+      let q : Some (record { taken = h.taken; written = length h.text }) ≡ Some t = sym (some_turn (eqb-false _ _ z)) ∙ sym e ∙ s in
+      let k : t ≡ record { taken = h.taken; written = length h.text } = cc in
+      rw k (record { some = eqb-false _ _ z; taken = refl; written = refl }))
 
 module _ {T : Type 0} (a : Ahead T) (r : Running) (t : T) (n : ℕ) where
   pub may_take : may_go r n ≡ true → share_at a r t n ≡ share_of a t

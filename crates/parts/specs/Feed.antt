@@ -68,6 +68,13 @@ module _ {T : Type 0} where
   stage_at Partial r = Runs r
   stage_at AtEnd r = Runs r
 
+  -- whether what stands ahead is no record
+  abbrev pub starts_none : Ahead T → Bool
+  starts_none (Takes taken text after) = false
+  starts_none NoRecord = true
+  starts_none Partial = false
+  starts_none AtEnd = false
+
   abbrev pub stays : Stage → T → Part T
   stays stage state = record { taken = 0; text = []; stage = stage; state = state }
 

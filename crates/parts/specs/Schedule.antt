@@ -34,7 +34,7 @@ has_next (Cut next) = true
 abbrev circuits_of : Stage → ℕ
 circuits_of Start = 0
 circuits_of Bad = 0
-circuits_of (Runs r) = r.circuits
+circuits_of (Runs r) = r.group.circuits
 circuits_of (Cut next) = 0
 
 module _ {T : Type 0} (w : Making T) where

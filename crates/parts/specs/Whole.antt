@@ -3,7 +3,7 @@
 -- Assumes nothing.
 use Rattle.std.specs.Prelude.{◌≡◌, Bool, true, false, cond, List, [], ◌++◌, ℕ, zero, suc, ◌+◌, ◌-◌, ◌≤◌, ◌<◌, length, drop}
 use Rattle.text.specs.Lines.{group_line, end_line, cut_line, bad_group_line}
-use Rattle.records.specs.Records.{octets_of, own_in, far_in, circuits_in, bad_start}
+use Rattle.records.specs.Records.{octets_of, own_in, far_in, circuits_in, group_in, bad_start}
 use Rattle.parts.specs.declared.Running.{Running}
 
 -- what stands at the start of some octets behind the group: a record, with how many octets it takes, its line and the state that it leaves; an
@@ -29,7 +29,7 @@ no_state = tt
 
 -- the next record has the next ordinal
 abbrev pub onward : Running → Running
-onward r = record { own = r.own; far = r.far; circuits = r.circuits; next = r.next + 1 }
+onward r = record { group = r.group; next = r.next + 1 }
 
 -- what is printed for what stands ahead, where `next` is the next record's ordinal: for a record its line and all that follows, as `more` gives it;
 -- for an octet that starts none, and for a record cut short, "cut" and that ordinal; where nothing more stands, "end" and the number of records
@@ -48,7 +48,7 @@ settled AtEnd = false
 
 -- the group of a file, before its first record
 abbrev pub opened : List ℕ → Running
-opened s = record { own = record { 0 = own_in s }; far = record { 0 = far_in s }; circuits = circuits_in s; next = 1 }
+opened s = record { group = group_in s; next = 1 }
 
 module _ {T : Type 0} (w : Making T) where
   -- the lines of the records in these octets, and the last line; k bounds the number of records

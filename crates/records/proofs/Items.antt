@@ -4,13 +4,15 @@
 use mathlib.Core.Path.{◌≡◌, refl, ap, ◌∙◌, sym}
 use mathlib.Core.Bool.{Bool, true, false, ◌||◌}
 use mathlib.Core.List.{List, ◌++◌}
+use mathlib.Core.Logic.{◌⊎◌, inl, inr}
 use Prim.Native.Nat.{ℕ, zero, suc, ◌+◌, ◌-◌, ◌≤◌, ◌<◌}
 use native.Mathlib.Nat.{add-zero}
 use native.Mathlib.Omega.{arith}
 use lib.Dec.{eqb, ltb}
-use lib.ListN.{length, drop, length-drop, length-append, get_or-append}
+use lib.ListN.{get_or, length, drop, length-drop, length-append, get_or-append}
 use lib.Seq.{get_or-drop}
 use borrow.Author.Tests.{eq-eqb, ne_eqb, eqb-true, eqb-false, ltb-true, ltb-false, lt-ltb, le-ltb}
+use Rattle.std.proofs.lemmas.Grind.{get_or_default_zero}
 use Rattle.text.proofs.Numbers.{by_test}
 use Rattle.records.specs.declared.Recorded.{Recorded}
 use Rattle.records.specs.declared.Item.{Item}
@@ -54,6 +56,17 @@ five_octets (suc (suc (suc (suc k)))) h n = absurd (omega arith)
 or_false : (a b : Bool) → (a || b) ≡ false → b ≡ false
 or_false true b e = absurd (let z : ◌≡◌ {A = ℕ} 0 1 = cc in omega arith)
 or_false false b e = e
+
+-- the octet that is got at a place of a slice
+pub got : (s : List ℕ) (at : ℕ) {k : ℕ} → true ≡ ltb at (length s) → k ≡ get_or s at k → (at < length s) × (k ≡ octet s at)
+got s at {k} t e = let h = ltb-true at (length s) (sym t) in (h, e ∙ get_or_default_zero s at k h)
+
+-- a kind from its tests
+pub no_event_kind : (k : ℕ) → (k ≡ 0) ⊎ ((k ≡ 0 → ⊥) × (3 < k)) → no_event k ≡ true
+no_event_kind k = elim [ inl z ↦ rw (eq-eqb k 0 z) | inr f ↦ rw (ne_eqb k 0 f.0, lt-ltb 3 k f.1) ]
+
+pub event_kind : (k : ℕ) → (k ≡ 0 → ⊥) → k ≤ 3 → no_event k ≡ false
+event_kind k n h = rw (ne_eqb k 0 n, le-ltb 3 k h)
 
 -- an event's record has an octet, and stands whole there
 pub record Whole (s : List ℕ) (e : Recorded) : Type 0 where
@@ -133,6 +146,13 @@ module _ (s rest : List ℕ) where
   pub none_stays : 0 < length s → no_event (octet s 0) ≡ true → item (s ++ rest) ≡ NoEvent
   none_stays h n = no_event_there (s ++ rest) (omega (arith, longer)) (rw (same_octet 0 h) n)
 
+none_taken : (i : Item) → ((e : Recorded) → i ≡ Event e → ⊥) → taken_of i ≡ 0
+unfolding taken_of
+none_taken (Event e) n = absurd (n e refl)
+none_taken NoEvent n = refl
+none_taken Short n = refl
+none_taken End n = refl
+
 -- the same at a place of a slice
 pub octet_drop : (s : List ℕ) (at i : ℕ) → octet (drop at s) i ≡ octet s (at + i)
 octet_drop s at i = get_or-drop at s i 0
@@ -167,6 +187,6 @@ module _ (s : List ℕ) (at : ℕ) where
       let f : octets_of e.kind ≤ length s - at = rw length-drop at w.fits in
       omega (arith, w.some)
 
-  pub behind_none : (i : Item) → taken_of i ≡ 0 → item (drop at s) ≡ i → behind s at ≡ at
+  pub behind_none : ((e : Recorded) → item (drop at s) ≡ Event e → ⊥) → behind s at ≡ at
   unfolding behind
-  behind_none i z q = rw (q, z) (add-zero at)
+  behind_none n = rw (none_taken (item (drop at s)) n) (add-zero at)

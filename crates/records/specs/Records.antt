@@ -61,7 +61,7 @@ abbrev pub circuits_in : List ℕ → ℕ
 circuits_in s = two s 5
 
 abbrev pub group_in : List ℕ → Group
-group_in s = record { own = record { 0 = own_in s }; far = record { 0 = far_in s }; circuits = circuits_in s }
+group_in s = record { codes = record { own = record { 0 = own_in s }; far = record { 0 = far_in s } }; circuits = circuits_in s }
 
 -- a group's record of another kind, or refused
 abbrev pub refused_start : List ℕ → Bool

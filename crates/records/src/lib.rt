@@ -5,10 +5,10 @@
 ghost use Rattle.std.specs.Prelude.{◌≡◌, ◌≤◌, length, drop};
 ghost use Rattle.records.specs.Records.{octets_of, two, detail_of, recorded, item, behind, refused_start, group_in};
 
-use circuit::PointCode;
+use circuit::{Codes, PointCode};
 
 // What an event's record says: kind 1 a signal and its heading, 2 a command, 3 a timer, whose detail is 0.
-#[derive(Clone, Copy)]
+#[derive(Clone, Copy, Debug, PartialEq, Eq)]
 pub struct Recorded {
     pub kind: u8,
     pub circuit: u16,
@@ -18,7 +18,7 @@ pub struct Recorded {
 
 // What stands at a place of a trace, behind the group: an event's record; an octet that starts none; a record's start and then the
 // end; nothing more.
-#[derive(Clone, Copy)]
+#[derive(Clone, Copy, Debug, PartialEq, Eq)]
 pub enum Item {
     Event(Recorded),
     NoEvent,
@@ -26,11 +26,10 @@ pub enum Item {
     End,
 }
 
-// What the group's record says.
-#[derive(Clone, Copy)]
+// What the group's record says: the two codes, and how many circuits there are.
+#[derive(Clone, Copy, Debug, PartialEq, Eq)]
 pub struct Group {
-    pub own: PointCode,
-    pub far: PointCode,
+    pub codes: Codes,
     pub circuits: u16,
 }
 
@@ -51,16 +50,7 @@ pub fn octets_of(kind: u8) -> usize
 fn two(s: &[u8], at: usize) -> u16
     ensures { result ≡ two s.now at }
 {
-    words::number(
-        words::octet(s, at, 0),
-        words::octet(s, at, 1),
-        0,
-        0,
-        0,
-        0,
-        0,
-        0,
-    ) as u16
+    u16::from_le_bytes([words::octet(s, at, 0), words::octet(s, at, 1)])
 }
 
 fn detail(kind: u8, octet: u8) -> u8
@@ -75,7 +65,7 @@ fn recorded_at(s: &[u8], at: usize) -> Recorded
 {
     let kind = words::octet(s, at, 0);
     Recorded {
-        kind: kind,
+        kind,
         circuit: two(s, at + 1),
         code: words::octet(s, at, 3),
         detail: detail(kind, words::octet(s, at, 4)),
@@ -86,11 +76,10 @@ fn recorded_at(s: &[u8], at: usize) -> Recorded
 pub fn item_at(s: &[u8], at: usize) -> Item
     ensures { result ≡ item (drop at s.now) }
 {
-    if s.len() <= at {
+    let Some(&kind) = s.get(at) else {
         return Item::End;
-    }
-    let kind = words::octet(s, at, 0);
-    if circuit::either(kind == 0, 3 < kind) {
+    };
+    if kind == 0 || 3 < kind {
         return Item::NoEvent;
     }
     if s.len() - at < octets_of(kind) {
@@ -103,21 +92,18 @@ pub fn item_at(s: &[u8], at: usize) -> Item
 pub fn refused_start(s: &[u8]) -> bool
     ensures { result ≡ refused_start s.now }
 {
-    let own = PointCode(two(s, 1) as u32);
-    let far = PointCode(two(s, 3) as u32);
-    let circuits = two(s, 5) as usize;
-    circuit::either(
-        words::octet(s, 0, 0) != 0,
-        circuit::bad_group(own, far, circuits),
-    )
+    let Group { codes, circuits } = group_in(s);
+    words::octet(s, 0, 0) != 0 || codes.bad_group(usize::from(circuits))
 }
 
 pub fn group_in(s: &[u8]) -> Group
     ensures { result ≡ group_in s.now }
 {
     Group {
-        own: PointCode(two(s, 1) as u32),
-        far: PointCode(two(s, 3) as u32),
+        codes: Codes {
+            own: PointCode(u32::from(two(s, 1))),
+            far: PointCode(u32::from(two(s, 3))),
+        },
         circuits: two(s, 5),
     }
 }
@@ -128,9 +114,7 @@ pub fn behind_at(s: &[u8], at: usize) -> usize
 {
     match item_at(s, at) {
         Item::Event(e) => at + octets_of(e.kind),
-        Item::NoEvent => at,
-        Item::Short => at,
-        Item::End => at,
+        _ => at,
     }
 }
 
@@ -142,23 +126,25 @@ pub struct Reader<'a> {
     pub at: usize,
 }
 
-pub fn new<'a>(src: &'a [u8]) -> Reader<'a>
-    ensures { (result.src ≡ src.entry) × (result.at ≡ 0) }
-{
-    Reader { src, at: 0 }
-}
+impl<'a> Reader<'a> {
+    pub fn new(src: &'a [u8]) -> Reader<'a>
+        ensures { (result.src ≡ src.entry) × (result.at ≡ 0) }
+    {
+        Reader { src, at: 0 }
+    }
 
-// What stands at the reader's place.
-pub fn here<'a>(r: Reader<'a>) -> Item
-    ensures { result ≡ item (drop r.entry.at r.entry.src.now) }
-{
-    item_at(r.src, r.at)
-}
+    // What stands at the reader's place.
+    pub fn here(self) -> Item
+        ensures { result ≡ item (drop self.entry.at self.entry.src.now) }
+    {
+        item_at(self.src, self.at)
+    }
 
-// The reader behind the event's record at its place; where none stands there, it stays.
-pub fn next<'a>(r: Reader<'a>) -> Reader<'a>
-    ensures { (result.src ≡ r.entry.src) × (result.at ≡ behind r.entry.src.now r.entry.at) }
-{
-    let at = behind_at(r.src, r.at);
-    Reader { src: r.src, at }
+    // The reader behind the event's record at its place; where none stands there, it stays.
+    pub fn next(self) -> Reader<'a>
+        ensures { (result.src ≡ self.entry.src) × (result.at ≡ behind self.entry.src.now self.entry.at) }
+    {
+        let at = behind_at(self.src, self.at);
+        Reader { at, ..self }
+    }
 }

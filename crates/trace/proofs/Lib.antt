@@ -1,4 +1,3 @@
 pub mod Events
 pub mod Turns
-pub mod Loop
 pub mod Cases

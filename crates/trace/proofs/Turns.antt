@@ -1,8 +1,10 @@
 -- One event of a replay: its share of the text and of the table, from what the functions that are called for it ensure.
 -- Assumes nothing.
-use mathlib.Core.Path.{◌≡◌, ◌∙◌}
+use mathlib.Core.Path.{◌≡◌, sym, ◌∙◌}
 use mathlib.Core.List.{List}
-use Prim.Native.Nat.{ℕ, ◌≤◌}
+use Prim.Native.Nat.{ℕ, ◌≤◌, ◌<◌}
+use native.Mathlib.Omega.{arith}
+use Rattle.std.specs.Prelude.{Some}
 use lib.ListN.{length}
 use borrow.Author.Tests.{le-ltb}
 use Rattle.codes.specs.Numbers.{event_of}
@@ -17,6 +19,7 @@ use Rattle.records.specs.Records.{octets_of}
 use Rattle.parts.specs.declared.Running.{Running}
 use Rattle.parts.specs.Feed.{share_of}
 use Rattle.parts.specs.Way.{Lands}
+use Rattle.parts.proofs.Turns.{some_turn}
 use Rattle.trace.specs.Replay.{happens, line_of, event_text, ahead_of}
 use Rattle.trace.specs.Way.{word_line}
 
@@ -26,7 +29,7 @@ of_word ordinal circuit w a u = rw (u.refusal, u.state, u.flags, u.ind, u.first,
 
 module _ (r : Running) (table : List ℕ) (e : Recorded) (w : ℕ) (l : Line) (table' room room' : List ℕ) (n o : ℕ) where
   abbrev does : Step
-  does = step_in r.own.0 r.far.0 table e.circuit (event_of e.kind e.code e.detail)
+  does = step_in r.group.codes.own.0 r.group.codes.far.0 table e.circuit (event_of e.kind e.code e.detail)
 
   pub event_lands : Unpacked w does.answer
       → table' ≡ does.table
@@ -34,9 +37,10 @@ module _ (r : Running) (table : List ℕ) (e : Recorded) (w : ℕ) (l : Line) (t
       → line_room ≤ length room
       → Printed room (in_room room (line l)) n room'
       → o ≡ octets_of e.kind
-      → Lands (share_of (ahead_of (Event e) r table) table) room (record { taken = o; written = n }) table' room'
+      → 0 < o
+      → Lands (share_of (ahead_of (Event e) r table) table) room (Some (record { taken = o; written = n })) table' room'
   unfolding happens
-  event_lands u t k h p q =
+  event_lands u t k h p q some =
       let x : l ≡ line_of r.next e.circuit does.answer = k ∙ of_word r.next e.circuit w does.answer u in
       let is : in_room room (line l) ≡ event_text r table e = rw (le-ltb (length room) line_room h, x) in
-      record { answers = rw (p.count, is, q); leaves = t; writes = rw (p.room, is) }
+      record { answers = rw (p.count, is, q) (sym (some_turn _ (λ z. omega arith))); leaves = t; writes = rw (p.room, is) }

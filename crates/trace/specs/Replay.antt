@@ -20,7 +20,7 @@ use Rattle.parts.specs.Whole.{Ahead, Ahead.Takes, Ahead.NoRecord, Ahead.Partial,
 
 -- what an event does in the group, on the table as all events before it left it
 unfoldable pub happens : Running → List ℕ → Recorded → Step
-happens r table e = step_in r.own.0 r.far.0 table e.circuit (event_of e.kind e.code e.detail)
+happens r table e = step_in r.group.codes.own.0 r.group.codes.far.0 table e.circuit (event_of e.kind e.code e.detail)
 
 -- ordinal, circuit, refusal, state, flags, indication, headings sent
 abbrev pub line_of : ℕ → ℕ → Answer → Line
@@ -61,5 +61,5 @@ replay s = whole replaying s
 abbrev pub table_octets : Stage → ℕ
 table_octets Start = 0
 table_octets Bad = 0
-table_octets (Runs r) = grouped.table_octets (min r.circuits 4096)
+table_octets (Runs r) = grouped.table_octets (min r.group.circuits 4096)
 table_octets (Cut next) = 0

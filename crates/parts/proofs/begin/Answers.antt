@@ -31,7 +31,7 @@ returns-then-room-lt-LINE-clause-writes c =
 
 pub returns : goal.returns
 returns c =
-    let b = opens c.args.part.now c.args.room.now c.group_line-written.new.room c.opened-r.result c.group_line-written.result c.octets_of-octets.result
-    (rw (← c.octets_of-octets.ensures) c.if-part-octets.false) (sym c.if-refused_start.ensures) c.if-room-lt-LINE.false c.opened-r.ensures c.group_line-written.ensures
+    let b = opens c.args.part.now c.args.room.now c.group_line-written.new.room c.group_in-group.result c.group_line-written.result c.octets_of-octets.result
+    (rw (← c.octets_of-octets.ensures) c.if-part-octets.false) (sym c.if-refused_start.ensures) c.if-room-lt-LINE.false c.group_in-group.ensures c.group_line-written.ensures
     c.octets_of-octets.ensures c.group_line-written.auto.room in
     record { answers = b.0; writes = b.1.0; within = b.1.1 }

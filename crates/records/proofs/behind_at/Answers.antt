@@ -1,9 +1,8 @@
 -- What the check leaves of the proof that `records::behind_at` meets its contract.
 -- Assumes nothing.
-use Rattle.std.proofs.Common.{refl, sym}
+use Rattle.std.proofs.Common.{sym}
+use mathlib.Core.Path.{◌∙◌}
 use native.Mathlib.Omega.{arith}
-use Rattle.records.specs.declared.Item.TheVariants.{NoEvent, Short, End}
-use Rattle.records.specs.Records.{taken_of}
 use Rattle.records.proofs.Items.{behind_event, behind_none, event_within}
 use Rattle.records.proofs.behind_at.Goals as goal
 
@@ -14,14 +13,5 @@ overflow_add-result c =
 pub returns-in-Event : goal.returns-in-Event
 returns-in-Event c = rw c.octets_of.ensures (sym (behind_event _ _ _ (sym c.in-Event.ensures)))
 
-pub returns-in-NoEvent : goal.returns-in-NoEvent
-unfolding taken_of
-returns-in-NoEvent c = sym (behind_none _ _ NoEvent refl (sym c.in-NoEvent.ensures))
-
-pub returns-in-Short : goal.returns-in-Short
-unfolding taken_of
-returns-in-Short c = sym (behind_none _ _ Short refl (sym c.in-Short.ensures))
-
-pub returns-in-End : goal.returns-in-End
-unfolding taken_of
-returns-in-End c = sym (behind_none _ _ End refl (sym c.in-End.ensures))
+pub returns-in_default : goal.returns-in_default
+returns-in_default c = sym (behind_none _ _ (λ e q. c.in_default.not-Event e (c.item_at.ensures ∙ q)))

@@ -3,27 +3,26 @@
 use Rattle.std.proofs.Common.{ap, sym}
 use mathlib.Core.Path.{◌∙◌}
 use native.Mathlib.Omega.{arith}
+use borrow.Author.Tests.{ltb-false}
 use Rattle.records.specs.declared.Item.TheVariants.{Event}
 use Rattle.records.specs.Records.{no_event, octets_of}
-use Rattle.records.proofs.Items.{octet_first, ends_at, no_event_at, short_at, event_at}
+use Rattle.records.proofs.Items.{got, no_event_kind, event_kind, ends_at, no_event_at, short_at, event_at}
 use Rattle.records.proofs.item_at.Goals as goal
 
+pub returns-in_default : goal.returns-in_default
+returns-in_default c = let l = rw c.in_default.is at c.get.ensures.lookup in sym (ends_at _ _ (ltb-false _ _ (sym l.0)))
+
+pub returns-then-kind-eq0 : goal.returns-then-kind-eq0
+returns-then-kind-eq0 c =
+    let l = got c.args.s.now c.args.at c.in-Some.ensures.lookup.0 c.in-Some.ensures.lookup.1 in
+    sym (no_event_at _ _ l.0 (rw l.1 at (no_event_kind _ c.then-kind-eq0.either)))
+
 pub returns-then-s-at : goal.returns-then-s-at
-returns-then-s-at c = sym (ends_at _ _ c.if-s-at.true)
-
-pub returns-then-either : goal.returns-then-either
-returns-then-either c =
-    let a = c.args in
-    sym (no_event_at _ _ c.if-s-at.false (ap no_event (sym (c.octet-kind.ensures ∙ octet_first a.s.now a.at)) ∙ sym c.either.ensures ∙ c.if-either.true))
-
-pub returns-then-s-at-2 : goal.returns-then-s-at-2
-returns-then-s-at-2 c =
-    let a = c.args in
-    let o = c.octet-kind.ensures ∙ octet_first a.s.now a.at in
-    sym (short_at _ _ c.if-s-at.false (ap no_event (sym o) ∙ sym c.either.ensures ∙ c.if-either.false) (omega (arith, c.octets_of.ensures, ap octets_of o)))
+returns-then-s-at c =
+    let l = got c.args.s.now c.args.at c.in-Some.ensures.lookup.0 c.in-Some.ensures.lookup.1 in
+    sym (short_at _ _ l.0 (rw l.1 at (event_kind _ c.if-kind-eq0.false c.if-kind-gt3.false)) (rw (← l.1) (omega (arith, c.octets_of.ensures))))
 
 pub returns : goal.returns
 returns c =
-    let a = c.args in
-    let o = c.octet-kind.ensures ∙ octet_first a.s.now a.at in
-    ap Event c.recorded_at.ensures ∙ sym (event_at _ _ c.if-s-at.false (ap no_event (sym o) ∙ sym c.either.ensures ∙ c.if-either.false) (omega (arith, c.octets_of.ensures, ap octets_of o)))
+    let l = got c.args.s.now c.args.at c.in-Some.ensures.lookup.0 c.in-Some.ensures.lookup.1 in
+    ap Event c.recorded_at.ensures ∙ sym (event_at _ _ l.0 (rw l.1 at (event_kind _ c.if-kind-eq0.false c.if-kind-gt3.false)) (rw (← l.1) (omega (arith, c.octets_of.ensures))))
