@@ -199,7 +199,7 @@ fn turns<P: Program, O: Print>(
         lines.write(&room[..fed.written])?;
         unread.take(fed.taken);
         stage = fed.stage;
-        if fed.taken == 0 && (parts::is_over(stage) || !unread.read(input)?) {
+        if fed.taken == 0 && (stage.is_over() || !unread.read(input)?) {
             return Ok(stage);
         }
     }
@@ -225,7 +225,7 @@ fn work<P: Program, O: Print>(
     let mut room = [0u8; 65536];
     let stage = turns(&mut program, lines, input, &mut unread, &mut room)?;
     let rest = unread.octets();
-    let n = parts::finish(stage, rest, &mut room);
+    let n = stage.finish(rest, &mut room);
     lines.out.write_all(&room[..n]).map_err(Trouble::Write)?;
     if !has_group(stage) && rest.first().is_some_and(|octet| is_text(*octet)) {
         return Err(Trouble::Text(P::WANTS));

@@ -11,7 +11,6 @@ ghost use Rattle.records.specs.Records.{octet};
 ghost use Rattle.parts.specs.Whole.{Stateless, no_state};
 ghost use Rattle.parts.specs.Feed.{answer_of, fed};
 ghost use Rattle.messages.specs.Listing.{iam_line_of, read_line, message_line, message_in, per_message};
-ghost use Rattle.messages.proofs.Laws.{lawful};
 
 use parts::{Fed, Kind, Running, Stage, Turn};
 use reader::Fields;
@@ -89,8 +88,6 @@ impl Kind for Listing {
     fn starts_none(_part: &[u8]) -> bool {
         false
     }
-
-    ghost lawful = { lawful };
 }
 
 // The list goes on with the next part of its file, which starts at the first octet that was not taken yet.

@@ -48,7 +48,8 @@ pub struct Fed {
     pub stage: Stage,
 }
 
-// A kind of file. What goes along from record to record lies in lent octets, which a kind that needs nothing leaves alone.
+// A kind of file. What goes along from record to record lies in lent octets, which a kind that needs nothing leaves alone. What else must hold of a
+// kind, `Lawful`, is required by `feed` and no law of the trait, since the laws of a trait may not cite a crate's proofs.
 pub trait Kind {
     ghost State: { Type 0 };
 
@@ -65,8 +66,6 @@ pub trait Kind {
     // Whether the part goes on with what is no record, so that the file is cut there.
     fn starts_none(part: &[u8]) -> bool
         ensures { (r : Running) (state : State) → result ≡ starts_none (making.ahead r state part.now) };
-
-    ghost lawful: { Lawful making };
 }
 
 impl Running {
@@ -168,6 +167,7 @@ fn one<K: Kind>(lent: &mut [u8], r: Running, part: &[u8], room: &mut [u8]) -> Op
 
 // Record after record, until none can be taken.
 fn run<K: Kind>(lent: &mut [u8], r: Running, part: &[u8], room: &mut [u8]) -> Fed
+    requires { Lawful K.making }
     ensures { Ran K.making r (K.state_in lent.old) part.now room.old result (K.state_in lent.new) room.new }
 {
     let mut here = r;
@@ -192,6 +192,7 @@ fn run<K: Kind>(lent: &mut [u8], r: Running, part: &[u8], room: &mut [u8]) -> Fe
 
 // The text goes on with the next part of its file, which starts at the first octet that was not taken yet.
 pub fn feed<K: Kind>(lent: &mut [u8], stage: Stage, part: &[u8], room: &mut [u8]) -> Fed
+    requires { Lawful K.making }
     ensures answers { result ≡ answer_of (fed K.making stage (K.state_in lent.old) part.now (length room.old)) }
     ensures leaves { K.state_in lent.new ≡ (fed K.making stage (K.state_in lent.old) part.now (length room.old)).state }
     ensures writes { room.new ≡ over (fed K.making stage (K.state_in lent.old) part.now (length room.old)).text room.old }

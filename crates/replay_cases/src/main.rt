@@ -86,7 +86,7 @@ fn ends_as(p: Place, whole: &[u8], want: &[u8], text: &mut [u8]) -> bool {
     if whole.len() < at || text.len() < written {
         return false;
     }
-    let n = parts::finish(stage, &whole[at..], &mut text[written..]);
+    let n = stage.finish(&whole[at..], &mut text[written..]);
     if text.len() < written + n {
         return false;
     }

@@ -43,4 +43,4 @@ module _ (r : Running) (table : List ℕ) (e : Recorded) (w : ℕ) (l : Line) (t
   event_lands u t k h p q some =
       let x : l ≡ line_of r.next e.circuit does.answer = k ∙ of_word r.next e.circuit w does.answer u in
       let is : in_room room (line l) ≡ event_text r table e = rw (le-ltb (length room) line_room h, x) in
-      record { answers = rw (p.count, is, q) (sym (some_turn _ (λ z. omega arith))); leaves = t; writes = rw (p.room, is) }
+      record { answers = rw (p.count, is, q) (sym (some_turn (share_of (ahead_of (Event e) r table) table) (λ z. omega arith))); leaves = t; writes = rw (p.room, is) }

@@ -7,7 +7,6 @@ ghost use Rattle.words.specs.Octets.{over};
 ghost use Rattle.parts.specs.Feed.{answer_of, fed};
 ghost use Rattle.trace.specs.Replay.{replaying, table_octets};
 ghost use Rattle.trace.specs.Way.{word_line};
-ghost use Rattle.trace.proofs.Events.{lawful};
 
 use circuit::Cic;
 use codes::Numbers;
@@ -68,8 +67,6 @@ impl Kind for Replay {
     fn starts_none(part: &[u8]) -> bool {
         matches!(Reader::new(part).here(), Item::NoEvent)
     }
-
-    ghost lawful = { lawful };
 }
 
 // A replay goes on with the next part of its trace, which starts at the first octet that was not taken yet.
