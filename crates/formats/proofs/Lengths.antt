@@ -42,8 +42,8 @@ module _ (h : ℕ) where
   pub no_length : length_if (listed h) ≡ None → listed h ≡ false
   no_length e = missing (listed h) _ e
 
-  pub a_length : (n : ℕ) → length_if (listed h) ≡ Some n → (listed h ≡ true) × (fixed_length h ≡ n)
-  a_length n e = cond_some (listed h) _ n e
+  pub a_length : (n : ℕ) → length_if (listed h) ≡ Some n → (listed h ≡ true) × (n ≡ fixed_length h)
+  a_length n e = let p = cond_some (listed h) _ n e in (p.0, sym p.1)
 
 -- a heading that is listed is an octet
 failure_octet : (f : Failure) → failure_heading f < 256

@@ -131,20 +131,20 @@ module _ (records h : ℕ) (xs : List ℕ) (octets : (i : ℕ) → get_or xs i 0
     known : listed h ≡ true
     known = (a_length h fixed is).0
 
-    fits : fixed_length h ≡ fixed
+    fits : fixed ≡ fixed_length h
     fits = (a_length h fixed is).1
 
     pub looked_long : (length xs ≡ fixed → ⊥) → body_of records h xs ≡ refused 7 (length xs)
-    looked_long n = long records h xs other known (λ e. n (e ∙ fits))
+    looked_long n = long records h xs other known (λ e. n (e ∙ sym fits))
 
     module _ (n : length xs ≡ fixed) (circuit : Cic) (k : circuit.0 ≡ cic_in xs) where
       pub looked_beyond : records ≤ circuit.0 → body_of records h xs ≡ refused 2 3
-      looked_beyond r = beyond records h xs other known (n ∙ sym fits) (rw k at r)
+      looked_beyond r = beyond records h xs other known (n ∙ fits) (rw k at r)
 
       module _ (r : circuit.0 < records) where
         -- by the format that the heading has
         plainly : (f : Format) → among_own h own_formats ≡ f → body_of records h xs ≡ fields_from h (content_in (headed f) xs)
-        plainly f e = taken records h xs other known (n ∙ sym fits) (rw k at r) ∙ ap (λ (f : Format). fields_from h (content_in (headed f) xs)) e
+        plainly f e = taken records h xs other known (n ∙ fits) (rw k at r) ∙ ap (λ (f : Format). fields_from h (content_in (headed f) xs)) e
 
         pub looked_acm : h ≡ 0x14 → body_of records h xs ≡ plain_fields circuit h (get_or xs 6 0 % 64)
         looked_acm e = plainly _ (an_acm h (eq-eqb h 0x14 e)) ∙ ap (plain_fields (record { 0 = cic_in xs }) h) (acm_there xs octets) ∙ ap (λ (v : ℕ). plain_fields (record { 0 = v }) h (get_or xs 6 0 % 64)) (sym k)
