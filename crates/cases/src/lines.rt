@@ -1,94 +1,44 @@
-// Reading the table of cases an octet at a time: numbers apart by spaces, hexadecimal after an x; `#` starts a remark that ends with its line.
+// Reading the table of cases: a line's numbers stand apart by spaces, hexadecimal behind an x; a line with a `#` is a remark.
 
-// What has been read of the line: its numbers so far, the number that is being read and its base (0: none is), whether it is a remark.
-#[derive(Clone, Copy)]
-pub(crate) struct Line {
-    pub fields: [u32; 48],
-    pub count: usize,
-    pub value: u32,
-    pub base: u32,
-    pub remark: bool,
-}
-
-pub(crate) fn empty() -> Line {
-    Line {
-        fields: [0u32; 48],
-        count: 0,
-        value: 0,
-        base: 0,
-        remark: false,
+fn digit(octet: u8) -> Option<u32> {
+    match octet {
+        b'0'..=b'9' => Some(u32::from(octet - b'0')),
+        b'a'..=b'f' => Some(u32::from(octet - b'a') + 10),
+        _ => None,
     }
 }
 
-// The digit of a character, and 16 where it is none.
-fn digit(byte: u8) -> u32 {
-    match byte {
-        b'0'..=b'9' => (byte - b'0') as u32,
-        b'a'..=b'f' => (byte - b'a') as u32 + 10,
-        _ => 16,
+// The number of these digits; what is no digit among them is passed over, and of a number too large the upper bits are lost.
+fn value(base: u32, digits: &[u8]) -> u32 {
+    digits.iter().filter_map(|octet| digit(*octet)).fold(
+        0,
+        |value: u32, digit| (value % 0x1000000).wrapping_mul(base).wrapping_add(digit),
+    )
+}
+
+// The number that a word says; none where it has no digit.
+fn number(word: &[u8]) -> Option<u32> {
+    match word.iter().rposition(|octet| *octet == b'x') {
+        Some(x) => Some(value(16, &word[x + 1..])),
+        None => word
+            .iter()
+            .any(|octet| digit(*octet).is_some())
+            .then(|| value(10, word)),
     }
 }
 
-// Ends the number that is being read. A number too many is counted and not kept.
-pub(crate) fn ended(line: Line) -> Line {
-    if line.base == 0 {
-        return line;
+// Puts a line's numbers into the room, and answers them; none where the room is too short. A remark has none.
+pub(crate) fn read<'a>(line: &[u8], room: &'a mut [u32]) -> Option<&'a [u32]> {
+    if line.contains(&b'#') {
+        return Some(&[]);
     }
-    let mut fields = line.fields;
-    let count = line.count;
-    if count < 48 {
-        fields[count] = line.value;
+    let mut count = 0;
+    let numbers = line
+        .split(|octet| *octet == b' ')
+        .filter_map(|word| number(word));
+    for (i, number) in numbers.enumerate() {
+        *room.get_mut(i)? = number;
+        count = i + 1;
     }
-    Line {
-        fields: fields,
-        count: if count < 48 { count + 1 } else { 49 },
-        value: 0,
-        base: 0,
-        remark: line.remark,
-    }
-}
-
-fn begun(line: Line, base: u32, value: u32) -> Line {
-    let fields = line.fields;
-    Line {
-        fields: fields,
-        count: line.count,
-        value: value,
-        base: base,
-        remark: line.remark,
-    }
-}
-
-fn with_digit(line: Line, d: u32) -> Line {
-    if 15 < d {
-        return line;
-    }
-    if line.base == 0 {
-        return begun(line, 10, d);
-    }
-    let value = line.value % 0x1000000;
-    if line.base == 16 {
-        begun(line, 16, 16 * value + d)
-    } else {
-        begun(line, 10, 10 * value + d)
-    }
-}
-
-// The line with one more character, which does not end it.
-pub(crate) fn read(line: Line, byte: u8) -> Line {
-    if line.remark {
-        return line;
-    }
-    match byte {
-        b' ' => ended(line),
-        b'x' => begun(line, 16, 0),
-        b'#' => Line {
-            fields: [0u32; 48],
-            count: 0,
-            value: 0,
-            base: 0,
-            remark: true,
-        },
-        _ => with_digit(line, digit(byte)),
-    }
+    room.get(..count)
 }

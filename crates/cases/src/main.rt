@@ -2,11 +2,8 @@
 // answered otherwise, and how many were run.
 #![tactic(auto)]
 
-ghost use Rattle.std.specs.Prelude.{◌≤◌, IfOk, length};
-
-use lines::Line;
 use std::io;
-use std::io::Read;
+use std::io::{Cursor, Read};
 
 mod choices; // choices.rt: the cases of selection
 mod lines; // lines.rt: reading the table of cases
@@ -14,123 +11,58 @@ mod messages; // messages.rt: the cases of a message
 mod steps; // steps.rt: the cases of a step
 mod tables; // tables.rt: laying out the table of a case
 
-// A case of a message, of which the line's first numbers are one.
-fn message_right(numbers: &[u32], count: usize) -> bool {
-    if count == 0 {
-        return false;
-    }
-    if numbers.len() < count {
-        return false;
-    }
-    match numbers[0] {
-        2 => messages::read_right(&numbers[..count]),
-        3 => messages::write_right(&numbers[..count]),
+// How many octets of the table are read, and how many numbers a line has at most.
+const TEXT: usize = 65536;
+
+const NUMBERS: usize = 48;
+
+// Whether a case is answered as it says; what is tried is its first number.
+fn right(case: &[u32]) -> bool {
+    match case {
+        [1, case @ ..] => steps::right(case),
+        [2, case @ ..] => messages::read_right(case),
+        [3, case @ ..] => messages::write_right(case),
+        [4, case @ ..] => choices::right(case),
         _ => false,
     }
 }
 
-// Whether a line's case is answered as it says; what is tried is its first number. A step has 17 numbers.
-fn right(line: Line) -> bool {
-    let fields = line.fields;
-    let count = line.count;
-    match fields[0] {
-        1 => count == 17 && steps::right(fields),
-        4 => choices::right(fields, count),
-        _ => message_right(&fields, count),
+// Whether a line's case is answered as it says; none where the line has no case. One with too many numbers is not.
+fn line_right(line: &[u8]) -> Option<bool> {
+    let mut room = [0u32; NUMBERS];
+    match lines::read(line, &mut room) {
+        Some([]) => None,
+        Some(case) => Some(right(case)),
+        None => Some(false),
     }
 }
 
-fn report(rt: &impl Print, ordinal: u64) -> io::Result<()> {
-    println!(rt; "line {ordinal} is answered otherwise")
-}
-
-// How far the table has been read: the line that is being read and its ordinal, the cases run, and those that were answered otherwise.
-#[derive(Clone, Copy)]
+// The cases run, and those that were answered otherwise.
+#[derive(Clone, Copy, Default)]
 struct Tally {
-    line: Line,
-    ordinal: u64,
     cases: u64,
     wrong: u64,
 }
 
-fn next(n: u64) -> u64 {
-    n.wrapping_add(1)
-}
-
-// At the end of a line: its case is run, if it has one.
-fn ended(rt: &impl Print, t: Tally) -> io::Result<Tally> {
-    let line = lines::ended(t.line);
-    let ordinal = next(t.ordinal);
-    let empty = lines::empty();
-    if line.count == 0 {
-        return Ok(Tally {
-            line: empty,
-            ordinal: ordinal,
-            cases: t.cases,
-            wrong: t.wrong,
-        });
-    }
-    let cases = next(t.cases);
-    let mut wrong = t.wrong;
-    if !right(line) {
-        report(rt, ordinal)?;
-        wrong = next(wrong);
-    }
-    Ok(Tally {
-        line: empty,
-        ordinal: ordinal,
-        cases: cases,
-        wrong: wrong,
-    })
-}
-
-fn read(rt: &impl Print, t: Tally, byte: u8) -> io::Result<Tally> {
-    if byte == b'\n' {
-        return ended(rt, t);
-    }
-    let line = lines::read(t.line, byte);
-    Ok(Tally {
-        line: line,
-        ordinal: t.ordinal,
-        cases: t.cases,
-        wrong: t.wrong,
-    })
-}
-
+// Runs the cases of whole lines.
 fn run(rt: &impl Print, text: &[u8]) -> io::Result<Tally> {
-    let empty = lines::empty();
-    let mut t = Tally {
-        line: empty,
-        ordinal: 0,
-        cases: 0,
-        wrong: 0,
-    };
-    for byte in text {
-        t = read(rt, t, *byte)?;
-    }
-    Ok(t)
-}
-
-// Reads until the space is full or the input ends, and answers how many octets there are.
-fn read_full(input: &mut impl Read, space: &mut [u8]) -> io::Result<usize>
-    ensures { IfOk result (λ n. n ≤ length space.new) }
-{
-    let mut have = 0;
-    while have < space.len() {
-        let more = input.read(&mut space[have..])?;
-        if more == 0 {
-            return Ok(have);
+    let mut tally = Tally::default();
+    for (line, ordinal) in text.split_inclusive(|octet| *octet == b'\n').zip(1u64..) {
+        let case = line.strip_suffix(b"\n").and_then(|line| line_right(line));
+        let Some(is_right) = case else { continue };
+        tally.cases = tally.cases.wrapping_add(1);
+        if !is_right {
+            println!(rt; "line {ordinal} is answered otherwise")?;
+            tally.wrong = tally.wrong.wrapping_add(1);
         }
-        have += more;
     }
-    Ok(have)
+    Ok(tally)
 }
 
 fn main(rt: HostRuntime) -> io::Result<()> {
-    let mut text = [0u8; 65536];
-    let n = read_full(&mut rt.stdin(), &mut text)?;
-    let t = run(&rt, &text[..n])?;
-    let cases = t.cases;
-    let wrong = t.wrong;
+    let mut text = Cursor::new([0u8; TEXT]);
+    let read = io::copy(&mut rt.stdin().take(TEXT as u64), &mut text)?;
+    let octets = text.into_inner();
+    let Tally { cases, wrong } = run(&rt, &octets[..octets.len().min(read as usize)])?;
     println!(rt; "{cases} cases, {wrong} wrong")
 }

@@ -1,123 +1,102 @@
 // A worked case of a step: the table is laid out, the entry for C is called, and its answer and every octet of the table are compared.
-ghost use Rattle.std.specs.Prelude.{◌<◌};
-
 use super::tables;
-use super::tables::octet;
+use super::tables::{LONGEST, Record, octet};
 
 // A table as a case has it: the counter of releases, a circuit's record from the place `at` on, and one octet everywhere beside these.
 #[derive(Clone, Copy)]
 struct Laid {
     counter: u64,
     at: usize,
-    state: u8,
-    flags: u8,
-    rank: u64,
+    record: Record,
     beside: u8,
 }
 
-fn wide(o: u8) -> u64
-    ensures { result < 256 }
-{
-    o as u64
-}
-
-// Lays a table out over zeros.
-fn lay_out(table: &mut [u8], t: Laid) {
-    tables::fill(table, t.beside);
-    tables::put_number(table, t.counter);
-    tables::put_record_at(table, t.at, t.state, t.flags, t.rank);
-}
-
-fn same(octets: &[u8], others: &[u8]) -> bool {
-    if octets.len() != others.len() {
-        return false;
-    }
-    let mut i = 0;
-    while i < octets.len() {
-        if octets[i] != others[i] {
-            return false;
+impl Laid {
+    // The table before the step. The rank is like all that stands beside the circuit; the counter's octets are alike but for its lowest. These
+    // three stand in one number, what is beside lowest and the counter's lowest octet highest.
+    fn before(octets: u32, cic: u32, state: u32, flags: u32) -> Laid {
+        let [beside, counter, lowest, _] = octets.to_le_bytes();
+        let mut counter = [counter; 8];
+        counter[0] = lowest;
+        Laid {
+            counter: u64::from_le_bytes(counter),
+            at: tables::place(cic),
+            record: Record {
+                state: octet(state),
+                flags: octet(flags),
+                rank: u64::from_le_bytes([beside; 8]),
+            },
+            beside,
         }
-        i += 1;
     }
-    true
-}
 
-// A number of eight octets that are all alike.
-fn alike(o: u8) -> u64 {
-    0x101010101010101 * wide(o)
-}
-
-// The table before the step. The rank is like all that stands beside the circuit; the counter's octets are alike but for its lowest.
-fn before(f: [u32; 48]) -> Laid {
-    let beside = octet(f[4]);
-    let rank = alike(beside);
-    let counter = alike(octet(f[4] / 0x100));
-    Laid {
-        counter: counter / 256 * 256 + wide(octet(f[4] / 0x10000)),
-        at: tables::place(f[5]),
-        state: octet(f[6]),
-        flags: octet(f[7]),
-        rank: rank,
-        beside: beside,
+    // The table with other state and flags. Where the circuit is freed the counter goes up by one, and the circuit takes it as its rank.
+    fn after(self, state: u32, flags: u32, freed: bool) -> Laid {
+        let next = self.counter.wrapping_add(1);
+        Laid {
+            counter: if freed { next } else { self.counter },
+            record: Record {
+                state: octet(state),
+                flags: octet(flags),
+                rank: if freed { next } else { self.record.rank },
+            },
+            ..self
+        }
     }
-}
 
-// The table after the step. From another state to idle the counter goes up by one, and the circuit takes it as its rank.
-fn after(f: [u32; 48]) -> Laid {
-    let t = before(f);
-    if f[11] != 0 {
-        return t;
-    }
-    let frees = f[6] != 0 && f[12] == 0;
-    let next = t.counter.wrapping_add(1);
-    Laid {
-        counter: if frees { next } else { t.counter },
-        at: t.at,
-        state: octet(f[12]),
-        flags: octet(f[13]),
-        rank: if frees { next } else { t.rank },
-        beside: t.beside,
+    fn lay_out(self, table: &mut [u8]) {
+        table.fill(self.beside);
+        tables::put(table, &self.counter.to_le_bytes());
+        if let Some(record) = table.get_mut(self.at..) {
+            self.record.put(record);
+        }
     }
 }
 
-// The field of an answer whose lowest bit is worth so much.
-fn field(answer: u64, worth: u64) -> u32 {
-    if worth == 0 {
-        return 0;
-    }
-    (answer / worth % 256) as u32
+// Whether the answer has these numbers: refusal, state, flags, indication and two headings.
+fn is_answer(got: u64, answer: &[u32]) -> bool {
+    let [refusal, ind, state, flags, first, second, _, _] = got.to_le_bytes().map(u32::from);
+    answer == [refusal, state, flags, ind, first, second].as_slice()
 }
 
-fn is_answer(got: u64, f: [u32; 48]) -> bool {
-    field(got, 1) == f[11]
-        && field(got, 0x100) == f[14]
-        && field(got, 0x10000) == f[12]
-        && field(got, 0x1000000) == f[13]
-        && field(got, 0x100000000) == f[15]
-        && field(got, 0x10000000000) == f[16]
-}
-
-// Whether the step of a case answers, and leaves the table, as the case says. The table is the first part of one space, and what it must be
-// after the step is laid out in the other; both are zeros.
-fn right_in(space: &mut [u8], other: &mut [u8], f: [u32; 48]) -> bool {
-    let octets = f[3] as usize;
-    if space.len() < octets {
+// A case says the two codes, the table's octets and what stands in them, the circuit, its state and flags; the event by kind, code and detail;
+// and the answer, of which state and flags are those that the circuit is left in.
+pub(crate) fn right(case: &[u32]) -> bool {
+    let &[
+        own,
+        far,
+        octets,
+        beside,
+        cic,
+        state,
+        flags,
+        kind,
+        code,
+        detail,
+        ref answer @ ..,
+    ] = case
+    else {
         return false;
-    }
-    if other.len() < octets {
+    };
+    let &[refusal, left, left_flags, _, _, _] = answer else {
         return false;
-    }
-    let table = &mut space[..octets];
-    let left = &mut other[..octets];
-    lay_out(table, before(f));
-    let got = tup::tup_step(f[1], f[2], table, f[5], f[8], f[9], f[10]);
-    lay_out(left, after(f));
-    is_answer(got, f) && same(table, left)
-}
-
-// A record more than a group may have is the longest table that is tried.
-pub(crate) fn right(f: [u32; 48]) -> bool {
-    let mut space = [0u8; 40978];
-    let mut other = [0u8; 40978];
-    right_in(&mut space, &mut other, f)
+    };
+    let mut space = [0u8; LONGEST];
+    let Some(table) = space.get_mut(..octets as usize) else {
+        return false;
+    };
+    let mut other = [0u8; LONGEST];
+    let Some(wanted) = other.get_mut(..octets as usize) else {
+        return false;
+    };
+    let before = Laid::before(beside, cic, state, flags);
+    let after = if refusal == 0 {
+        before.after(left, left_flags, state != 0 && left == 0)
+    } else {
+        before
+    };
+    before.lay_out(table);
+    after.lay_out(wanted);
+    let got = tup::tup_step(own, far, table, cic, kind, code, detail);
+    is_answer(got, answer) && &*table == &*wanted
 }
