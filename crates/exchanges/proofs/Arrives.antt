@@ -22,7 +22,7 @@ use Rattle.words.specs.Octets.{number_of, over}
 use Rattle.words.proofs.Octets.{number_back}
 use Rattle.layout.specs.Layout.{records_in, record_at}
 use Rattle.group.specs.Table.{step_in}
-use Rattle.reader.specs.declared.Fields.{Fields}
+use Rattle.reader.specs.Told.{Told as Fields}
 use Rattle.formats.specs.Format.{ACM}
 use Rattle.formats.specs.Messages.{format_of, is_acm}
 use Rattle.formats.proofs.Format.{got_fits}

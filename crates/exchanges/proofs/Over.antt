@@ -24,7 +24,7 @@ use Rattle.group.specs.Table.{step_in}
 use Rattle.group.specs.Refusals.{refusal_in}
 use Rattle.group.proofs.Laws.{refusals}
 use Rattle.group.proofs.Valid.{low_flags, valid_at, behind}
-use Rattle.reader.specs.declared.Fields.{Fields}
+use Rattle.reader.specs.Told.{Told as Fields}
 use Rattle.reader.specs.Places.{cic_in}
 use Rattle.reader.specs.Reading.{fields_of, reading}
 use Rattle.ends.specs.Machine.{When.losing_all, When.never, none, silence, given, Happening, turn}

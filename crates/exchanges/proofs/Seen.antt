@@ -13,7 +13,7 @@ use Rattle.circuit.specs.Groups.{bad_group}
 use Rattle.circuit.specs.Refusals.{first_rule}
 use Rattle.circuit.proofs.Every.{left, right}
 use Rattle.codes.specs.Headings.{heading_of}
-use Rattle.reader.specs.declared.Fields.{Fields}
+use Rattle.reader.specs.Told.{Told as Fields}
 use Rattle.reader.specs.Places.{cic_in}
 use Rattle.reader.specs.Reading.{fields_of}
 use Rattle.writer.specs.Writing.{Said, octets_of, write_rules}

@@ -20,7 +20,7 @@ use Rattle.circuit.proofs.Every.{left, right}
 use Rattle.codes.specs.Headings.{heading_of, signal_of}
 use Rattle.formats.specs.Octets.{above_fifteen, short}
 use Rattle.formats.specs.Messages.{has_signals, listed, half}
-use Rattle.reader.specs.declared.Fields.{Fields}
+use Rattle.reader.specs.Told.{Told as Fields}
 use Rattle.reader.specs.Places.{cic_in}
 use Rattle.reader.specs.Reading.{fields_of, reading}
 use Rattle.reader.proofs.Faults.{read_refusal, read_fields}

@@ -6,7 +6,8 @@ use lib.ListN.{length, drop}
 use lib.Seq.{take-append_seam}
 use Rattle.circuit.specs.Refusals.{first_rule}
 use Rattle.circuit.proofs.Groups.{turned}
-use Rattle.reader.specs.Reading.{no_codes, fields_of}
+use Rattle.reader.specs.Reading.{fields_of}
+use Rattle.reader.specs.Told.{no_codes}
 use Rattle.writer.specs.Writing.{Said, said, octets_of, write_rules}
 use Rattle.inverse.specs.Said.{fields_said, said_of}
 use Rattle.inverse.proofs.ReadBack.{octets_read, taking}

@@ -14,12 +14,12 @@ use Rattle.circuit.specs.Groups.{bad_group}
 use Rattle.circuit.specs.Refusals.{first_rule}
 use Rattle.words.specs.Octets.{Octets, over}
 use Rattle.words.proofs.Octets.{number_back}
-use Rattle.reader.specs.declared.Fields.{Fields}
+use Rattle.reader.specs.Told.{Told as Fields, no_codes}
 use Rattle.formats.specs.Format.{INDICATORS, most}
 use Rattle.formats.specs.Messages.{format_of, is_iam}
 use Rattle.formats.proofs.ByHeading.{indicators_most}
 use Rattle.reader.specs.Places.{heading_in, field_by, signals_by}
-use Rattle.reader.specs.Reading.{no_codes, fields_of}
+use Rattle.reader.specs.Reading.{fields_of}
 use Rattle.writer.specs.Writing.{Said, octets_of, write_rules, putting, Outcome, writing}
 use Rattle.writer.proofs.Tests.{fitting}
 use Rattle.tup.specs.Entries.{fields_octets, Told, telling, read_into, write_from}

@@ -10,7 +10,7 @@ use lib.Dec.{T, leb, ltb, leb→le, lit≤}
 use lib.ListN.{length}
 use Rattle.circuit.specs.Refusals.{refuse, Rule, first_rule, Clear}
 use Rattle.circuit.proofs.Refusals.{clear, none_given, every_number, answer_fits, before_them, after_them}
-use Rattle.reader.specs.declared.Fields.{Fields}
+use Rattle.reader.specs.Told.{Told as Fields}
 use Rattle.reader.specs.Faults.{Fault, fault, place_of}
 use Rattle.reader.specs.Reading.{read_faults, read_rules, fields_of}
 use Rattle.reader.proofs.Faults.{read_refusal, read_place, no_place, place_before, place_after}

@@ -21,7 +21,8 @@ use Rattle.formats.proofs.ByHeading.{once_each, count_most}
 use Rattle.words.specs.Octets.{number_of}
 use Rattle.words.proofs.Octets.{length-low_first}
 use Rattle.reader.specs.Places.{dpc_in, opc_in, cic_in, heading_in, field_by}
-use Rattle.reader.specs.Reading.{body_rules, read_rules, no_codes, fields_in, fields_of}
+use Rattle.reader.specs.Reading.{body_rules, read_rules, fields_in, fields_of}
+use Rattle.reader.specs.Told.{no_codes}
 use Rattle.reader.proofs.Faults.{read_refusal, read_fields}
 use Rattle.writer.specs.Writing.{Said, said, too_large, bad_address, content_said, octets_of, write_rules, putting, writing}
 use Rattle.inverse.specs.Octets.{cleared}

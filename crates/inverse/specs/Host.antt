@@ -4,7 +4,7 @@
 use Rattle.std.specs.Prelude.{◌≡◌, List, [], ◌∷◌, ◌++◌, ℕ, ◌/◌, ◌%◌, ltb, length, get_or, take, drop}
 use Rattle.circuit.specs.Refusals.{Rule}
 use Rattle.words.specs.Octets.{number_of}
-use Rattle.reader.specs.declared.Fields.{Fields}
+use Rattle.reader.specs.Told.{Told as Fields}
 use Rattle.reader.specs.Faults.{Fault, fault, rules_of}
 use Rattle.reader.specs.Reading.{read_faults}
 use Rattle.writer.specs.Writing.{Written}

@@ -1,10 +1,9 @@
 -- A message as the writer is told it and as the reader tells it.
 -- Assumes nothing.
 use Rattle.std.specs.Prelude.{cond, ℕ, ◌+◌, length, take}
-use Rattle.reader.specs.declared.Fields.{Fields}
+use Rattle.reader.specs.Told.{Told as Fields, no_codes}
 use Rattle.formats.specs.Messages.{is_iam, is_acm, half}
 use Rattle.words.specs.Octets.{over}
-use Rattle.reader.specs.Reading.{no_codes}
 use Rattle.writer.specs.Writing.{Said, said}
 
 -- the fields that a reader is to find
