@@ -2,7 +2,8 @@
 -- Assumes nothing.
 use mathlib.Core.Path.{◌≡◌, sym, ◌∙◌}
 use mathlib.Core.List.{List}
-use Prim.Native.Nat.{ℕ, ◌≤◌, ◌<◌}
+use Prim.Native.Nat.{ℕ, ◌≤◌}
+use native.Mathlib.Nat.{zero-add}
 use native.Mathlib.Omega.{arith}
 use Rattle.std.specs.Prelude.{Some}
 use lib.ListN.{length}
@@ -15,9 +16,10 @@ use Rattle.text.specs.Lines.{line}
 use Rattle.text.specs.Writing.{Printed, in_room, line_room}
 use Rattle.records.specs.declared.Recorded.{Recorded}
 use Rattle.records.specs.declared.Item.TheVariants.{Event}
-use Rattle.records.specs.Records.{octets_of}
+use Rattle.records.specs.Records.{octets_of, item, behind}
+use Rattle.records.proofs.Items.{whole, behind_event}
 use Rattle.parts.specs.declared.Running.{Running}
-use Rattle.parts.specs.Feed.{share_of}
+use Rattle.parts.specs.Feed.{Share, share_of}
 use Rattle.parts.specs.Way.{Lands}
 use Rattle.parts.proofs.Turns.{some_turn}
 use Rattle.trace.specs.Replay.{happens, line_of, event_text, ahead_of}
@@ -27,20 +29,27 @@ use Rattle.trace.specs.Way.{word_line}
 of_word : (ordinal circuit w : ℕ) (a : Answer) → Unpacked w a → word_line ordinal circuit w ≡ line_of ordinal circuit a
 of_word ordinal circuit w a u = rw (u.refusal, u.state, u.flags, u.ind, u.first, u.second)
 
-module _ (r : Running) (table : List ℕ) (e : Recorded) (w : ℕ) (l : Line) (table' room room' : List ℕ) (n o : ℕ) where
+module _ (r : Running) (table part : List ℕ) (e : Recorded) (here : item part ≡ Event e) (w : ℕ) (l : Line) (table' room room' : List ℕ) (n o : ℕ) where
   abbrev does : Step
   does = step_in r.group.codes.own.0 r.group.codes.far.0 table e.circuit (event_of e.kind e.code e.detail)
+
+  abbrev had : Share (List ℕ)
+  had = share_of (ahead_of (Event e) r table) table
+
+  -- the reader stands behind the event's record
+  further : o ≡ behind part 0 → o ≡ octets_of e.kind
+  further p = p ∙ behind_event part 0 e here ∙ zero-add (octets_of e.kind)
 
   pub event_lands : Unpacked w does.answer
       → table' ≡ does.table
       → l ≡ word_line r.next e.circuit w
       → line_room ≤ length room
       → Printed room (in_room room (line l)) n room'
-      → o ≡ octets_of e.kind
-      → 0 < o
-      → Lands (share_of (ahead_of (Event e) r table) table) room (Some (record { taken = o; written = n })) table' room'
+      → o ≡ behind part 0
+      → Lands (share_of (ahead_of (item part) r table) table) room (Some (record { taken = o; written = n })) table' room'
   unfolding happens
-  event_lands u t k h p q some =
+  event_lands u t k h p q =
       let x : l ≡ line_of r.next e.circuit does.answer = k ∙ of_word r.next e.circuit w does.answer u in
       let is : in_room room (line l) ≡ event_text r table e = rw (le-ltb (length room) line_room h, x) in
-      record { answers = rw (p.count, is, q) (sym (some_turn (share_of (ahead_of (Event e) r table) table) (λ z. omega arith))); leaves = t; writes = rw (p.room, is) }
+      let some : had.taken ≡ 0 → ⊥ = λ z. omega (arith, (whole part e here).some) in
+      rw here (record { answers = rw (p.count, is, further q) (sym (some_turn had some)); leaves = t; writes = rw (p.room, is) })

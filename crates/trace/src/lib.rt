@@ -6,7 +6,7 @@ ghost use Rattle.std.specs.Prelude.{◌≡◌, ◌≤◌, List, ℕ, length};
 ghost use Rattle.words.specs.Octets.{over};
 ghost use Rattle.parts.specs.Feed.{answer_of, fed};
 ghost use Rattle.trace.specs.Replay.{replaying, table_octets};
-ghost use Rattle.trace.specs.Way.{word_line};
+ghost use Rattle.trace.specs.Way.{word_line, numbers_of};
 
 use circuit::Cic;
 use codes::Numbers;
@@ -34,8 +34,9 @@ fn line_of(ordinal: u64, circuit: u16, answer: u64) -> Line
     }
 }
 
+// An event's numbers, as a host gives them.
 fn numbers_of(e: Recorded) -> Numbers
-    ensures { (result.kind ≡ e.kind) × (result.code ≡ e.code) × (result.detail ≡ e.detail) }
+    ensures { result ≡ numbers_of e }
 {
     Numbers {
         kind: u32::from(e.kind),
