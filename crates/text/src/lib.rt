@@ -2,11 +2,15 @@
 // answers how many octets that took; where the room has fewer than `LINE` octets, it writes nothing and answers 0.
 #![tactic(auto)]
 
-ghost use Rattle.std.specs.Prelude.{◌≡◌, [], ◌∷◌, ◌++◌, ◌+◌, ◌≤◌, ◌<◌, length};
+ghost use Rattle.std.specs.Prelude.{◌≡◌, [], ◌∷◌, ◌++◌, ◌+◌, ◌≤◌, ◌<◌, length, List, ℕ};
+ghost use Rattle.std.specs.Borrow.{MutBor};
+ghost use Rattle.text.specs.declared.Pen.{Pen};
 ghost use Rattle.text.specs.Numbers.{decimal, hex_digit, hex};
 ghost use Rattle.text.specs.Writing.{Printed, in_room};
-ghost use Rattle.text.specs.Way.{Wrote};
+ghost use Rattle.text.specs.Way.{Wrote, Writes};
 ghost use Rattle.text.specs.Lines.{field, state_and_flags, headings, line, group_line, end_line, cut_line, bad_group_line, read_start, signals, refused_line, plain_line, acm_line, iam_line};
+
+use names::Refusal;
 
 // Six numbers of 20 digits and a space each, two headings and a comma, and the line feed.
 pub const LINE: usize = 132;
@@ -15,7 +19,7 @@ pub const LINE: usize = 132;
 const MOST_SIGNALS: usize = 15;
 
 // What an event's line says. A heading of 0 stands for none.
-#[derive(Clone, Copy)]
+#[derive(Clone, Copy, Debug, PartialEq, Eq)]
 pub struct Line {
     pub ordinal: u64,
     pub circuit: u16,
@@ -27,248 +31,264 @@ pub struct Line {
     pub second: u8,
 }
 
-fn put(room: &mut [u8], at: usize, octet: u8) -> usize
-    requires { at < length room.old }
-    ensures { Wrote room.old at (octet ∷ []) result room.new }
-{
-    room[at] = octet;
-    at + 1
+// A line that is being written, in the first octets of the lent room, and where its next octet goes.
+#[derive(Drop)]
+struct Pen<'a> {
+    room: &'a mut [u8; LINE],
+    at: usize,
 }
 
-// The digits of n: those of n / 10, and its last.
-fn digits(room: &mut [u8], at: usize, n: u64) -> usize
-    requires { at + length (decimal n) ≤ length room.old }
-    ensures { Wrote room.old at (decimal n) result room.new }
-{
-    if n < 10 {
-        return put(room, at, 48 + n as u8);
+impl Pen<'_> {
+    fn put(&mut self, octet: u8)
+        requires { self.old.at + 1 ≤ 132 }
+        ensures { Wrote self.old (octet ∷ []) 1 self.new }
+    {
+        self.room[self.at] = octet;
+        self.at += 1;
     }
-    let next = digits(room, at, n / 10);
-    put(room, next, 48 + (n % 10) as u8)
-}
 
-// A number and the octet behind it.
-fn number(room: &mut [u8], at: usize, n: u64, behind: u8) -> usize
-    requires { at + 21 ≤ length room.old }
-    ensures wrote { Wrote room.old at (decimal n ++ (behind ∷ [])) result room.new }
-    ensures upper_bound { result ≤ at + 21 }
-{
-    if n < 10 {
-        let next = put(room, at, 48 + n as u8);
-        return put(room, next, behind);
+    fn word(&mut self, text: &[u8])
+        requires { self.old.at + length text.now ≤ 132 }
+        ensures { Wrote self.old text.now (length text.now) self.new }
+    {
+        let end = self.at + text.len();
+        let room = &mut *self.room;
+        room[self.at..end].copy_from_slice(text);
+        self.at = end;
     }
-    let next = digits(room, at, n);
-    put(room, next, behind)
-}
 
-fn field(room: &mut [u8], at: usize, n: u64) -> usize
-    requires { at + 21 ≤ length room.old }
-    ensures wrote { Wrote room.old at (field n) result room.new }
-    ensures upper_bound { result ≤ at + 21 }
-{
-    number(room, at, n, b' ')
-}
-
-fn word(room: &mut [u8], at: usize, text: &[u8]) -> usize
-    requires { at + length text.now ≤ length room.old }
-    ensures { Wrote room.old at text.now result room.new }
-{
-    let mut i = 0;
-    while i < text.len() {
-        room[at + i] = text[i];
-        i += 1;
+    // The digits of n: those of n / 10, and its last.
+    fn digits(&mut self, n: u64)
+        requires { self.old.at + length (decimal n) ≤ 132 }
+        ensures { Wrote self.old (decimal n) 20 self.new }
+    {
+        if n < 10 {
+            return self.put(b'0' + n as u8);
+        }
+        let last = b'0' + (n % 10) as u8;
+        self.digits(n / 10);
+        self.put(last);
     }
-    at + i
+
+    // A number and the octet behind it.
+    fn number(&mut self, n: u64, behind: u8)
+        requires { self.old.at + 21 ≤ 132 }
+        ensures { Wrote self.old (decimal n ++ (behind ∷ [])) 21 self.new }
+    {
+        self.digits(n);
+        self.put(behind);
+    }
+
+    fn field(&mut self, n: u64)
+        requires { self.old.at + 21 ≤ 132 }
+        ensures { Wrote self.old (field n) 21 self.new }
+    {
+        self.number(n, b' ');
+    }
+
+    fn hex(&mut self, octet: u8)
+        requires { self.old.at + 2 ≤ 132 }
+        ensures { Wrote self.old (hex octet) 2 self.new }
+    {
+        self.put(hex_digit(octet / 16));
+        self.put(hex_digit(octet % 16));
+    }
+
+    fn headings(&mut self, first: u8, second: u8)
+        requires { self.old.at + 5 ≤ 132 }
+        ensures { Wrote self.old (headings first second) 5 self.new }
+    {
+        if first == names::NO_SIGNAL {
+            return self.put(b'-');
+        }
+        self.hex(first);
+        if second == names::NO_SIGNAL {
+            return;
+        }
+        self.put(b',');
+        self.hex(second);
+    }
+
+    fn state_and_flags(&mut self, l: Line)
+        requires { self.old.at + 42 ≤ 132 }
+        ensures { Wrote self.old (state_and_flags l) 42 self.new }
+    {
+        if l.refusal == Refusal::NoSuchCircuit as u8 {
+            return self.word(b"- - ");
+        }
+        self.field(u64::from(l.state));
+        self.field(u64::from(l.flags));
+    }
+
+    // The start of the line of a message that was read, up to its fields.
+    fn read_start(&mut self, ordinal: u64, circuit: u32, heading: u8)
+        requires { self.old.at ≡ 0 }
+        ensures { Wrote self.old (read_start ordinal circuit heading) 49 self.new }
+    {
+        self.field(ordinal);
+        self.word(b"0 0 ");
+        self.field(u64::from(circuit));
+        self.hex(heading);
+        self.put(b' ');
+    }
+
+    // The address signals, a hexadecimal digit each.
+    fn signals(&mut self, address: &[u8])
+        requires { self.old.at + length address.now ≤ 132 }
+        ensures { Wrote self.old (signals address.now) (length address.now) self.new }
+    {
+        for &signal in address {
+            self.put(hex_digit(signal % 16));
+        }
+    }
 }
 
 fn hex_digit(d: u8) -> u8
     requires { d < 16 }
     ensures { result ≡ hex_digit d }
 {
-    if d < 10 { 48 + d } else { 87 + d }
+    if d < 10 { b'0' + d } else { b'a' + (d - 10) }
 }
 
-fn hex(room: &mut [u8], at: usize, octet: u8) -> usize
-    requires { at + 2 ≤ length room.old }
-    ensures { Wrote room.old at (hex octet) result room.new }
+// What is written from the room's start, where the room has a line's octets; else nothing is.
+fn written<F: FnOnce(&mut Pen<'_>)>(room: &mut [u8], write: F) -> usize
+    requires { (pen : MutBor Pen) → pen.now.at ≡ 0 → F.pre write pen }
+    ensures { (text : List ℕ) → Writes (λ before after. F.post write before tt after) text → Printed room.old (in_room room.old text) result room.new }
 {
-    let next = put(room, at, hex_digit(octet / 16));
-    put(room, next, hex_digit(octet % 16))
-}
-
-fn headings(room: &mut [u8], at: usize, first: u8, second: u8) -> usize
-    requires { at + 5 ≤ length room.old }
-    ensures wrote { Wrote room.old at (headings first second) result room.new }
-    ensures upper_bound { result ≤ at + 5 }
-{
-    if first == names::NO_SIGNAL {
-        return put(room, at, b'-');
-    }
-    let next = hex(room, at, first);
-    if second == names::NO_SIGNAL {
-        return next;
-    }
-    let next = put(room, next, b',');
-    hex(room, next, second)
-}
-
-fn state_and_flags(room: &mut [u8], at: usize, l: Line) -> usize
-    requires { at + 42 ≤ length room.old }
-    ensures wrote { Wrote room.old at (state_and_flags l) result room.new }
-    ensures upper_bound { result ≤ at + 42 }
-{
-    if l.refusal == names::NO_SUCH_CIRCUIT {
-        return word(room, at, b"- - ");
-    }
-    let next = field(room, at, l.state as u64);
-    field(room, next, l.flags as u64)
-}
-
-fn whole_line(room: &mut [u8], l: Line) -> usize
-    requires { 132 ≤ length room.old }
-    ensures wrote { Wrote room.old 0 (line l) result room.new }
-    ensures upper_bound { result ≤ 132 }
-{
-    let next = field(room, 0, l.ordinal);
-    let next = field(room, next, l.circuit as u64);
-    let next = field(room, next, l.refusal as u64);
-    let next = state_and_flags(room, next, l);
-    let next = field(room, next, l.ind as u64);
-    let next = headings(room, next, l.first, l.second);
-    put(room, next, b'\n')
-}
-
-fn word_and_number(room: &mut [u8], text: &[u8], n: u64) -> usize
-    requires { length text.now + 21 ≤ length room.old }
-    ensures wrote { Wrote room.old 0 (text.now ++ (decimal n ++ (10 ∷ []))) result room.new }
-    ensures upper_bound { result ≤ length text.now + 21 }
-{
-    let next = word(room, 0, text);
-    let next = digits(room, next, n);
-    put(room, next, b'\n')
-}
-
-fn whole_group_line(room: &mut [u8], own: u32, far: u32, circuits: u16) -> usize
-    requires { 132 ≤ length room.old }
-    ensures wrote { Wrote room.old 0 (group_line own far circuits) result room.new }
-    ensures upper_bound { result ≤ 132 }
-{
-    let next = word(room, 0, b"own ");
-    let next = field(room, next, own as u64);
-    let next = word(room, next, b"far ");
-    let next = field(room, next, far as u64);
-    let next = word(room, next, b"circuits ");
-    let next = digits(room, next, circuits as u64);
-    put(room, next, b'\n')
-}
-
-// The start of the line of a message that was read, up to its fields.
-fn read_start(room: &mut [u8], ordinal: u64, circuit: u32, heading: u8) -> usize
-    requires { 132 ≤ length room.old }
-    ensures wrote { Wrote room.old 0 (read_start ordinal circuit heading) result room.new }
-    ensures upper_bound { result ≤ 49 }
-{
-    let next = field(room, 0, ordinal);
-    let next = word(room, next, b"0 0 ");
-    let next = field(room, next, circuit as u64);
-    let next = hex(room, next, heading);
-    put(room, next, b' ')
-}
-
-// The address signals, a hexadecimal digit each.
-fn signals(room: &mut [u8], at: usize, address: &[u8]) -> usize
-    requires { at + length address.now ≤ length room.old }
-    ensures { Wrote room.old at (signals address.now) result room.new }
-{
-    let mut i = 0;
-    while i < address.len() {
-        room[at + i] = hex_digit(address[i] % 16);
-        i += 1;
-    }
-    at + i
+    let Some(room) = room.first_chunk_mut() else {
+        return 0;
+    };
+    let mut pen = Pen { room, at: 0 };
+    write(&mut pen);
+    pen.at
 }
 
 // An event's line.
 pub fn event_line(room: &mut [u8], l: Line) -> usize
     ensures { Printed room.old (in_room room.old (line l)) result room.new }
 {
-    if room.len() < LINE {
-        return 0;
-    }
-    whole_line(room, l)
+    written(
+        room,
+        |pen|
+            requires { pen.old.at ≡ 0 }
+            ensures { Wrote pen.old (line l) 132 pen.new }
+        {
+            pen.field(l.ordinal);
+            pen.field(u64::from(l.circuit));
+            pen.field(u64::from(l.refusal));
+            pen.state_and_flags(l);
+            pen.field(u64::from(l.ind));
+            pen.headings(l.first, l.second);
+            pen.put(b'\n');
+        },
+    )
 }
 
 // Line 1, the group.
 pub fn group_line(room: &mut [u8], own: u32, far: u32, circuits: u16) -> usize
     ensures { Printed room.old (in_room room.old (group_line own far circuits)) result room.new }
 {
-    if room.len() < LINE {
-        return 0;
-    }
-    whole_group_line(room, own, far, circuits)
+    written(
+        room,
+        |pen|
+            requires { pen.old.at ≡ 0 }
+            ensures { Wrote pen.old (group_line own far circuits) 132 pen.new }
+        {
+            pen.word(b"own ");
+            pen.field(u64::from(own));
+            pen.word(b"far ");
+            pen.field(u64::from(far));
+            pen.word(b"circuits ");
+            pen.number(u64::from(circuits), b'\n');
+        },
+    )
 }
 
 // The last line: "end" and the number of events, "cut" and the next event's ordinal, or "bad group".
 pub fn end_line(room: &mut [u8], events: u64) -> usize
     ensures { Printed room.old (in_room room.old (end_line events)) result room.new }
 {
-    if room.len() < LINE {
-        return 0;
-    }
-    word_and_number(room, b"end ", events)
+    written(
+        room,
+        |pen|
+            requires { pen.old.at ≡ 0 }
+            ensures { Wrote pen.old (end_line events) 132 pen.new }
+        {
+            pen.word(b"end ");
+            pen.number(events, b'\n');
+        },
+    )
 }
 
 pub fn cut_line(room: &mut [u8], next: u64) -> usize
     ensures { Printed room.old (in_room room.old (cut_line next)) result room.new }
 {
-    if room.len() < LINE {
-        return 0;
-    }
-    word_and_number(room, b"cut ", next)
+    written(
+        room,
+        |pen|
+            requires { pen.old.at ≡ 0 }
+            ensures { Wrote pen.old (cut_line next) 132 pen.new }
+        {
+            pen.word(b"cut ");
+            pen.number(next, b'\n');
+        },
+    )
 }
 
 pub fn bad_group_line(room: &mut [u8]) -> usize
     ensures { Printed room.old (in_room room.old bad_group_line) result room.new }
 {
-    if room.len() < LINE {
-        return 0;
-    }
-    word(room, 0, b"bad group\n")
+    written(room, |pen| { pen.word(b"bad group\n") })
 }
 
 // The line of a message that was refused.
 pub fn refused_line(room: &mut [u8], ordinal: u64, refusal: u8, place: u64) -> usize
     ensures { Printed room.old (in_room room.old (refused_line ordinal refusal place)) result room.new }
 {
-    if room.len() < LINE {
-        return 0;
-    }
-    let next = field(room, 0, ordinal);
-    let next = field(room, next, refusal as u64);
-    let next = field(room, next, place);
-    word(room, next, b"- - -\n")
+    written(
+        room,
+        |pen|
+            requires { pen.old.at ≡ 0 }
+            ensures { Wrote pen.old (refused_line ordinal refusal place) 132 pen.new }
+        {
+            pen.field(ordinal);
+            pen.field(u64::from(refusal));
+            pen.field(place);
+            pen.word(b"- - -\n");
+        },
+    )
 }
 
 // The line of a message that was read and has no fields of its own.
 pub fn plain_line(room: &mut [u8], ordinal: u64, circuit: u32, heading: u8) -> usize
     ensures { Printed room.old (in_room room.old (plain_line ordinal circuit heading)) result room.new }
 {
-    if room.len() < LINE {
-        return 0;
-    }
-    let next = read_start(room, ordinal, circuit, heading);
-    word(room, next, b"-\n")
+    written(
+        room,
+        |pen|
+            requires { pen.old.at ≡ 0 }
+            ensures { Wrote pen.old (plain_line ordinal circuit heading) 132 pen.new }
+        {
+            pen.read_start(ordinal, circuit, heading);
+            pen.word(b"-\n");
+        },
+    )
 }
 
 // The line of an ACM, with its octet.
 pub fn acm_line(room: &mut [u8], ordinal: u64, circuit: u32, heading: u8, acm: u8) -> usize
     ensures { Printed room.old (in_room room.old (acm_line ordinal circuit heading acm)) result room.new }
 {
-    if room.len() < LINE {
-        return 0;
-    }
-    let next = read_start(room, ordinal, circuit, heading);
-    number(room, next, acm as u64, b'\n')
+    written(
+        room,
+        |pen|
+            requires { pen.old.at ≡ 0 }
+            ensures { Wrote pen.old (acm_line ordinal circuit heading acm) 132 pen.new }
+        {
+            pen.read_start(ordinal, circuit, heading);
+            pen.number(u64::from(acm), b'\n');
+        },
+    )
 }
 
 // The line of an IAM, with its category, indicators and address signals. No message has more than 15 of these: there is no line for more.
@@ -283,15 +303,20 @@ pub fn iam_line(
 ) -> usize
     ensures { Printed room.old (in_room room.old (iam_line ordinal circuit heading category indicators address.now)) result room.new }
 {
-    if room.len() < LINE {
-        return 0;
-    }
     if MOST_SIGNALS < address.len() {
         return 0;
     }
-    let next = read_start(room, ordinal, circuit, heading);
-    let next = number(room, next, category as u64, b',');
-    let next = number(room, next, indicators as u64, b',');
-    let next = signals(room, next, address);
-    put(room, next, b'\n')
+    written(
+        room,
+        |pen|
+            requires { (pen.old.at ≡ 0) × (length address.now ≤ 15) }
+            ensures { Wrote pen.old (iam_line ordinal circuit heading category indicators address.entry.now) 132 pen.new }
+        {
+            pen.read_start(ordinal, circuit, heading);
+            pen.number(u64::from(category), b',');
+            pen.number(u64::from(indicators), b',');
+            pen.signals(address);
+            pen.put(b'\n');
+        },
+    )
 }
