@@ -1,13 +1,17 @@
 -- Laws of numbers in octets of a lent slice: what is put is read back, and nothing else changes. All that use words go by these.
 -- Assumes nothing.
 use mathlib.Core.Path.{◌≡◌, refl, ◌∙◌}
-use mathlib.Core.List.{List}
+use mathlib.Core.List.{List, [], ◌∷◌, ◌++◌}
 use Prim.Native.Nat.{ℕ, zero, suc, ◌+◌, ◌*◌, ◌/◌, ◌%◌, ◌^◌, ◌<◌, ◌≤◌}
 use native.Mathlib.Omega.{arith}
 use native.Mathlib.Numerals.{unary_clauses}
-use lib.ListN.{length, get_or, set, length-set, replicate}
+use lib.ListN.{length, get_or, set, length-set, replicate, take, drop}
 use lib.Seq.{get_or-set_same, get_or-set_other}
-use Rattle.words.specs.Words.{number, put, word, put_word}
+use Rattle.std.proofs.Common.{add-zero, add-one, append_assoc, drop-cons, take-append-drop}
+use Rattle.std.specs.Int.{w64, from_le_bytes}
+use Rattle.std.proofs.lemmas.List.{drop-set-lt, take_more_set}
+use Rattle.words.specs.Words.{number, put, word}
+use Rattle.words.specs.Octets.{low_first}
 
 -- a word's octets one by one, as the program has them
 pub octets : (xs : List ℕ) (at : ℕ)
@@ -15,29 +19,41 @@ pub octets : (xs : List ℕ) (at : ℕ)
 unfolding number
 octets xs at = simp unary_clauses
 
-pub four_put : (xs : List ℕ) (at v : ℕ)
-    → put 4 xs at v ≡ set (set (set (set xs at (v % 256)) (at + 1) (v / 0x100 % 256)) (at + 2) (v / 0x10000 % 256)) (at + 3) (v / 0x1000000 % 256)
-unfolding put
-four_put xs at v =
-    let d₂ : v / 256 / 256 ≡ v / 0x10000 = omega arith in
-    let d₃ : v / 0x10000 / 256 ≡ v / 0x1000000 = omega arith in
-    rw (d₂, d₃) (simp unary_clauses)
+-- eight octets that are those from a place on
+pub whole : (xs bs : List ℕ) (at : ℕ) → ((k : ℕ) → k < 8 → get_or bs k 0 ≡ get_or xs (at + k) 0) → from_le_bytes w64 bs ≡ word xs at
+whole xs bs at same =
+    rw (octets xs at, same 0 (omega arith), same 1 (omega arith), same 2 (omega arith), same 3 (omega arith), same 4 (omega arith), same 5 (omega arith), same 6 (omega arith), same 7 (omega arith), add-zero) (omega arith)
 
-pub eight_put : (xs : List ℕ) (at v : ℕ) → put_word xs at v ≡ put 4 (put 4 xs at v) (at + 4) (v / 0x100000000)
-unfolding put
-eight_put xs at v =
-    let d₂ : v / 256 / 256 ≡ v / 0x10000 = omega arith in
+-- the octets that `to_le_bytes` gives
+pub eight_low : (v : ℕ)
+    → v % 256 ∷ v / 0x100 % 256 ∷ v / 0x10000 % 256 ∷ v / 0x1000000 % 256 ∷ v / 0x100000000 % 256 ∷ v / 0x10000000000 % 256 ∷ v / 0x1000000000000 % 256 ∷ v / 0x100000000000000 % 256 ∷ [] ≡ low_first 8 v
+eight_low v =
+    let d₂ : v / 0x100 / 256 ≡ v / 0x10000 = omega arith in
     let d₃ : v / 0x10000 / 256 ≡ v / 0x1000000 = omega arith in
     let d₄ : v / 0x1000000 / 256 ≡ v / 0x100000000 = omega arith in
-    rw (d₂, d₃, d₄) (simp unary_clauses)
+    let d₅ : v / 0x100000000 / 256 ≡ v / 0x10000000000 = omega arith in
+    let d₆ : v / 0x10000000000 / 256 ≡ v / 0x1000000000000 = omega arith in
+    let d₇ : v / 0x1000000000000 / 256 ≡ v / 0x100000000000000 = omega arith in
+    simp (d₂, d₃, d₄, d₅, d₆, d₇)
 
-pub octets_put : (xs : List ℕ) (at v : ℕ)
-    → put_word xs at v ≡ set (set (set (set (set (set (set (set xs at (v % 256)) (at + 1) (v / 0x100 % 256)) (at + 2) (v / 0x10000 % 256)) (at + 3) (v / 0x1000000 % 256)) (at + 4) (v / 0x100000000 % 256)) (at + 5) (v / 0x10000000000 % 256)) (at + 6) (v / 0x1000000000000 % 256)) (at + 7) (v / 0x100000000000000 % 256)
-octets_put xs at v =
-    let d₅ : v / 0x100000000 / 0x100 ≡ v / 0x10000000000 = omega arith in
-    let d₆ : v / 0x100000000 / 0x10000 ≡ v / 0x1000000000000 = omega arith in
-    let d₇ : v / 0x100000000 / 0x1000000 ≡ v / 0x100000000000000 = omega arith in
-    rw (eight_put xs at v, four_put (put 4 xs at v) (at + 4) (v / 0x100000000), four_put xs at v, d₅, d₆, d₇) (simp unary_clauses)
+-- one octet more
+pub put_next : (k n : ℕ) (xs : List ℕ) (at v : ℕ) → k < n → put (suc k) xs at v ≡ set (put k xs at v) (at + k) (get_or (low_first n v) k 0)
+unfolding put
+put_next zero zero xs at v h = absurd (omega arith)
+put_next (suc k) zero xs at v h = absurd (omega arith)
+put_next zero (suc n) xs at v h = rw add-zero refl
+put_next (suc k) (suc n) xs at v h =
+    let place : at + 1 + k ≡ at + suc k = omega arith in
+    rw (put_next k n (set xs at (v % 256)) (at + 1) (v / 256) (omega arith), place) refl
+
+-- all at once, where there is room
+pub put_whole : (n : ℕ) (xs : List ℕ) (at v : ℕ) → at + n ≤ length xs → take at xs ++ (low_first n v ++ drop n (drop at xs)) ≡ put n xs at v
+unfolding put
+put_whole zero xs at v room = take-append-drop at xs
+put_whole (suc n) xs at v room =
+    let d : ℕ = v % 256 in
+    let rest : drop (suc n) (drop at xs) ≡ drop n (drop (at + 1) (set xs at d)) = rw (drop-cons xs at 0 (omega arith), drop-set-lt (at + 1) xs at d (omega arith), add-one) refl in
+    rw (rest, ← put_whole n (set xs at d) (at + 1) (v / 256) (rw length-set (omega arith)), take_more_set xs at d (omega arith), append_assoc) refl
 
 pub put_length : (n : ℕ) (xs : List ℕ) (at v : ℕ) → length (put n xs at v) ≡ length xs
 unfolding put
