@@ -1,9 +1,9 @@
--- The table's rule, over all of its entries: each number is one of those that exist, and means what the printed table says at its place. `column`
--- has the test computed at each column.
+-- The table's rule, over all of its entries: each number is one of those that exist, and means what the printed table says at its place. `entry`
+-- has the test computed.
 -- Assumes nothing.
 use mathlib.Core.Path.{◌≡◌, refl, ap, ◌∙◌, sym, subst}
 use mathlib.Core.Bool.{Bool, true, false, cond, not, ◌&&◌}
-use mathlib.Core.List.{List}
+use mathlib.Core.List.{List, []}
 use Prim.Native.Nat.{ℕ, ◌+◌, ◌*◌, ◌/◌, ◌%◌, ◌<◌, ◌≤◌}
 use native.Mathlib.Omega.{arith}
 use lib.Dec.{T, eqb, eqb→eq, leb, leb→le}
@@ -16,7 +16,7 @@ use Rattle.circuit.proofs.Every.{left, right, then, at_below}
 use Rattle.calls.specs.declared.Call.{Call}
 use Rattle.signals.specs.Table.{on_signal}
 use Rattle.calls.specs.Calls.{call, call_part, unmarked, meaning, is_number, on_call}
-use Rattle.calls.specs.Way.{Column}
+use Rattle.calls.specs.Way.{column_of}
 
 abbrev same : Call → Call → Bool
 same a b = eqb a.state b.state && (eqb a.sends b.sends && eqb a.ind b.ind)
@@ -35,11 +35,6 @@ is_same a b t =
 abbrev pub right_at : Signal → List ℕ → ℕ → Bool
 right_at sig numbers i = is_number (get_or numbers i 0) && same (meaning (get_or numbers i 0)) (on_call (eqb (i % 2) 0) (i / 2) sig)
 
--- and the rule from it
-pub ruled : (sig : Signal) (numbers : List ℕ) → T (each_below 26 (right_at sig numbers)) → Column sig numbers
-unfolding Column
-ruled sig numbers t i h = is_same _ _ (right (is_number (get_or numbers i 0)) _ (at_below 26 (right_at sig numbers) t i h))
-
 role_at : (n : ℕ) (c : Bool) → eqb ((n * 2 + from_bool (not c)) % 2) 0 ≡ c
 role_at n true = let e : (n * 2 + 0) % 2 ≡ 0 = omega arith in rw e
 role_at n false = let e : (n * 2 + 1) % 2 ≡ 1 = omega arith in rw e
@@ -48,15 +43,16 @@ low : (c : Bool) → from_bool (not c) < 2
 low true = omega arith
 low false = omega arith
 
--- the entry of a state and a role in a column
-pub at_place : (c : Bool) (s : ℕ) (sig : Signal) (numbers : List ℕ) → s ≤ 12 → Column sig numbers → meaning (get_or numbers (s * 2 + from_bool (not c)) 0) ≡ on_call c s sig
-unfolding Column
-at_place c s sig numbers h column =
-    let b : from_bool (not c) < 2 = low c in
-    let state : (s * 2 + from_bool (not c)) / 2 ≡ s = omega arith in
-    subst (λ (k : ℕ). meaning (get_or numbers (s * 2 + from_bool (not c)) 0) ≡ on_call c k sig) state
-    (subst (λ (r : Bool). meaning (get_or numbers (s * 2 + from_bool (not c)) 0) ≡ on_call r ((s * 2 + from_bool (not c)) / 2) sig) (role_at s c)
-    (column (s * 2 + from_bool (not c)) (omega arith)))
+-- the entry of a signal, a state and a role in a table of such columns
+module _ (table : List (List ℕ)) (rule : (sig : Signal) → T (each_below 26 (right_at sig (get_or table (column_of sig) [])))) where
+  pub at_place : (c : Bool) (s : ℕ) (sig : Signal) → s ≤ 12 → meaning (get_or (get_or table (column_of sig) []) (s * 2 + from_bool (not c)) 0) ≡ on_call c s sig
+  at_place c s sig h =
+      let numbers : List ℕ = get_or table (column_of sig) [] in
+      let i : ℕ = s * 2 + from_bool (not c) in
+      let b : from_bool (not c) < 2 = low c in
+      let state : i / 2 ≡ s = omega arith in
+      let t : T (right_at sig numbers i) = at_below 26 (right_at sig numbers) (rule sig) i (omega arith) in
+      is_same _ _ (right (is_number (get_or numbers i 0)) _ t) ∙ ap (λ (k : ℕ). on_call (eqb (i % 2) 0) k sig) state ∙ ap (λ (r : Bool). on_call r s sig) (role_at s c)
 
 -- the number of a call part: each number that exists comes back from its meaning, so that no two of them mean the same
 abbrev number : Call → ℕ

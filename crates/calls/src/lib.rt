@@ -4,7 +4,7 @@
 
 ghost use Rattle.std.specs.Prelude.{◌≡◌, ◌≤◌};
 ghost use Rattle.calls.specs.Calls.{meaning, on_call};
-ghost use Rattle.calls.specs.Way.{Column};
+ghost use Rattle.calls.specs.Way.{column_of};
 
 use circuit::Signal;
 
@@ -19,7 +19,7 @@ pub struct Call {
 // A column a signal, in the order in which docs/RULES.md lists the headings; a line an entry: its signal, its state, and whether our end controls the
 // circuit (c) or not (n). The first digit is the new state; the second is the indication where nothing is sent, and a is CLF with 10, b CLF with 6,
 // c RLG with 0, d RLG with 5, e RLG with 6.
-const CALLS: [[u8; 26]; 14] = [
+static CALLS: [[u8; 26]; 14] = [
     [
         0x61, // IAM in 0 c
         0x61, // IAM in 0 n
@@ -414,28 +414,25 @@ const CALLS: [[u8; 26]; 14] = [
     ],
 ];
 
-// A signal's column. Each case names it by a constant number, so that the compiler copies that column and not the table. The table itself is named
-// once, since the prover carries all of it wherever it is named.
-#[tactic(auto, using(crate::proofs::Rule::ruled), unfolding(crate::specs::Calls::meaning, crate::specs::Calls::on_call, circuit::specs::Rows::first))]
-fn column(s: Signal) -> [u8; 26]
-    ensures { Column s result }
+// A signal's column.
+fn column_of(s: Signal) -> usize
+    ensures { result ≡ column_of s }
 {
-    let table = CALLS;
     match s {
-        Signal::Iam => table[0],
-        Signal::Acm(_) => table[1],
-        Signal::Anc => table[2],
-        Signal::Ann => table[3],
-        Signal::Cbk => table[4],
-        Signal::Clf => table[5],
-        Signal::Ran => table[6],
-        Signal::Rlg => table[7],
-        Signal::Blo => table[8],
-        Signal::Bla => table[9],
-        Signal::Ubl => table[10],
-        Signal::Uba => table[11],
-        Signal::Rsc => table[12],
-        Signal::Fail(_) => table[13],
+        Signal::Iam => 0,
+        Signal::Acm(_) => 1,
+        Signal::Anc => 2,
+        Signal::Ann => 3,
+        Signal::Cbk => 4,
+        Signal::Clf => 5,
+        Signal::Ran => 6,
+        Signal::Rlg => 7,
+        Signal::Blo => 8,
+        Signal::Bla => 9,
+        Signal::Ubl => 10,
+        Signal::Uba => 11,
+        Signal::Rsc => 12,
+        Signal::Fail(_) => 13,
     }
 }
 
@@ -444,21 +441,27 @@ fn entry(con: bool, state: u8, s: Signal) -> u8
     requires { state ≤ 12 }
     ensures { meaning result ≡ on_call con state s }
 {
-    column(s)[usize::from(state) * 2 + usize::from(!con)]
+    CALLS[column_of(s)][usize::from(state) * 2 + usize::from(!con)]
 }
 
 #[tactic(auto, unfolding(crate::specs::Calls::meaning))]
 fn meaning(n: u8) -> Call
     ensures { result ≡ meaning n }
 {
-    let state = n / 16;
-    let (sends, ind) = match n % 16 {
+    let (state, digit) = (n / 16, n % 16);
+    if digit < 0xa {
+        return Call {
+            state,
+            sends: names::NO_SIGNAL,
+            ind: digit,
+        };
+    }
+    let (sends, ind) = match digit {
         0xa => (names::CLF, names::IND_CALL_FAILED),
         0xb => (names::CLF, names::IND_TRY_ELSEWHERE),
         0xc => (names::RLG, names::IND_NOTHING),
         0xd => (names::RLG, names::IND_CIRCUIT_FREED),
-        0xe | 0xf => (names::RLG, names::IND_TRY_ELSEWHERE),
-        ind => (names::NO_SIGNAL, ind),
+        _ => (names::RLG, names::IND_TRY_ELSEWHERE),
     };
     Call { state, sends, ind }
 }

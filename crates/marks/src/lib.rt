@@ -135,16 +135,43 @@ pub fn reset(flags: u8) -> Marked
     )
 }
 
-// What a signal does to the marks.
+// What a signal does to the marks. Most signals touch no flag, so the flags are taken apart only where one is touched.
 pub fn on_signal(flags: u8, s: Signal) -> Marked
     ensures { result ≡ on_marks flags s }
 {
-    let held = Flags::from(flags);
     match s {
-        Signal::Blo => outcome(Flags { far: true, ..held }, names::BLA, false),
-        Signal::Bla => outcome(Flags { bla: false, ..held }, names::NO_SIGNAL, !held.bla),
-        Signal::Ubl => outcome(Flags { far: false, ..held }, names::UBA, false),
-        Signal::Uba => outcome(Flags { uba: false, ..held }, names::NO_SIGNAL, !held.uba),
+        Signal::Blo => outcome(
+            Flags {
+                far: true,
+                ..Flags::from(flags)
+            },
+            names::BLA,
+            false,
+        ),
+        Signal::Ubl => outcome(
+            Flags {
+                far: false,
+                ..Flags::from(flags)
+            },
+            names::UBA,
+            false,
+        ),
+        Signal::Bla => outcome(
+            Flags {
+                bla: false,
+                ..Flags::from(flags)
+            },
+            names::NO_SIGNAL,
+            !Flags::from(flags).bla,
+        ),
+        Signal::Uba => outcome(
+            Flags {
+                uba: false,
+                ..Flags::from(flags)
+            },
+            names::NO_SIGNAL,
+            !Flags::from(flags).uba,
+        ),
         Signal::Rsc => reset(flags),
         _ => Marked {
             flags,
