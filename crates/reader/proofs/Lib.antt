@@ -5,3 +5,4 @@ pub mod Named
 pub mod ByLetter
 pub mod Stands
 pub mod Spoils
+pub mod Once

@@ -1,3 +1,4 @@
 pub mod Pairs
 pub mod Tests
 pub mod Writes
+pub mod Once
