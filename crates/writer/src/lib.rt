@@ -22,7 +22,7 @@ const SIX_BITS: u32 = 63;
 const INDICATORS: u32 = 2047;
 
 // A message that is to be written, by numbers. A field that the heading does not have is 0, and the address of any message but an IAM is empty.
-#[derive(Clone, Copy)]
+#[derive(Clone, Copy, Debug, PartialEq, Eq)]
 pub struct Draft<'a> {
     pub cic: Cic,
     pub heading: u32,
@@ -119,28 +119,28 @@ fn write_iam(label: u64, m: Draft, out: &mut [u8]) -> Result<u8, Refusal>
         return Err(Refusal::ShortNumber);
     }
     let count = m.address.len();
-    let need = formats::IAM_OCTETS + (count + 1) / 2;
+    let need = formats::IAM_OCTETS + count.div_ceil(2);
     if out.len() < need {
         return Err(Refusal::OutputTooShort);
     }
-    let word = m.indicators + formats::COUNT_PLACE as u32 * (count as u32);
+    let word = u64::from(m.indicators) + formats::COUNT_PLACE * (count as u64);
     put_iam(label, m.category as u8, word as u16, out);
     put_pairs(m.address, out);
     Ok(need as u8)
 }
 
 // Any other message whose fields are in order.
-fn write_short(label: u64, heading: u32, acm: u32, fixed: usize, out: &mut [u8]) -> Result<u8, Refusal>
-    requires { (listed heading ≡ true) × (is_iam heading ≡ false) × (acm ≤ most (format_of heading).fields ACM) × (fixed ≡ fixed_length heading) }
-    ensures { outcome (told result) out.new ≡ short_writing label heading acm out.old }
+fn write_short(label: u64, m: Draft, fixed: usize, out: &mut [u8]) -> Result<u8, Refusal>
+    requires { (listed m.heading ≡ true) × (is_iam m.heading ≡ false) × (m.acm ≤ most (format_of m.heading).fields ACM) × (fixed ≡ fixed_length m.heading) }
+    ensures { outcome (told result) out.new ≡ short_writing label m.entry.heading m.entry.acm out.old }
 {
     if out.len() < fixed {
         return Err(Refusal::OutputTooShort);
     }
-    if heading == formats::ACM {
-        put_acm(label, acm as u8, out);
+    if m.heading == formats::ACM {
+        put_acm(label, m.acm as u8, out);
     } else {
-        put_plain(label, heading as u8, out);
+        put_plain(label, m.heading as u8, out);
     }
     Ok(fixed as u8)
 }
@@ -164,5 +164,5 @@ pub fn write(codes: Codes, records: usize, m: Draft, out: &mut [u8]) -> Result<u
     if m.heading == formats::IAM {
         return write_iam(label, m, out);
     }
-    write_short(label, m.heading, m.acm, fixed, out)
+    write_short(label, m, fixed, out)
 }
