@@ -9,16 +9,18 @@ use Rattle.codes.specs.Headings as Headings
 use Rattle.signals.specs.Table.{on_signal}
 use Rattle.calls.specs.Calls.{call_part, unmarked}
 use Rattle.calls.proofs.Rule.{is_call_part}
+use Rattle.answers.proofs.Once as fields
+use Rattle.select.proofs.Once as chosen
+use Rattle.reader.proofs.Once as was_read
+use Rattle.writer.proofs.Once as written
 use Rattle.group.specs.Table.{step_in}
 use Rattle.select.specs.Selection.{select_in}
 use Rattle.writer.specs.Writing.{said}
 use Rattle.tup.specs.Entries as Entries
-use Rattle.circuit.proofs.both.Reads as both
-use Rattle.circuit.proofs.either.Reads as either
-use Rattle.circuit.proofs.bad_codes.Reads as bad_point_codes
-use Rattle.circuit.proofs.bad_group.Reads as bad_group
-use Rattle.circuit.proofs.lowest.Reads as lowest
-use Rattle.circuit.proofs.controls.Reads as controls
+use Rattle.circuit.proofs.Codes.are_bad.Reads as bad_point_codes
+use Rattle.circuit.proofs.Codes.bad_group.Reads as bad_group
+use Rattle.circuit.proofs.Codes.lowest.Reads as lowest
+use Rattle.circuit.proofs.Codes.control.Reads as controls
 use Rattle.codes.proofs.failure_heading.Reads as failure_heading
 use Rattle.codes.proofs.failure_of.Reads as failure_of
 use Rattle.codes.proofs.signal_of.Reads as signal_of
@@ -31,17 +33,11 @@ use Rattle.words.proofs.put_word.Reads as put_word
 use Rattle.answers.proofs.answer.Reads as answer
 use Rattle.answers.proofs.refused.Reads as refused
 use Rattle.answers.proofs.sent.Reads as sent
+use Rattle.answers.proofs.fields_of.Reads as answer_fields_of
 use Rattle.answers.proofs.refusal_of.Reads as refusal_of
-use Rattle.answers.proofs.ind_of.Reads as ind_of
-use Rattle.answers.proofs.state_of.Reads as state_of
-use Rattle.answers.proofs.flags_of.Reads as flags_of
-use Rattle.answers.proofs.first_of.Reads as first_signal_of
-use Rattle.answers.proofs.second_of.Reads as second_of
-use Rattle.marks.proofs.flags_of.Reads as marks_flags_of
-use Rattle.marks.proofs.own.Reads as own
-use Rattle.marks.proofs.far.Reads as far
-use Rattle.marks.proofs.bla.Reads as bla
-use Rattle.marks.proofs.uba.Reads as uba
+use Rattle.answers.proofs.held_of.Reads as held_of
+use Rattle.marks.proofs.FlagsFromU8.from.Reads as flags_from_octet
+use Rattle.marks.proofs.U8FromFlags.from.Reads as octet_from_flags
 use Rattle.marks.proofs.legal.Reads as legal
 use Rattle.marks.proofs.legal_in_reset.Reads as legal_in_reset
 use Rattle.marks.proofs.blocked.Reads as blocked
@@ -92,13 +88,12 @@ use Rattle.records.proofs.item_at.Reads as item_at
 use Rattle.records.proofs.refused_start.Reads as refused_start
 use Rattle.records.proofs.group_in.Reads as group_in
 use Rattle.records.proofs.behind_at.Reads as behind_at
-use Rattle.parts.proofs.may_go.Reads as may_go
-use Rattle.parts.proofs.no_turn.Reads as no_turn
-use Rattle.parts.proofs.onward.Reads as onward
-use Rattle.parts.proofs.stay.Reads as stay
+use Rattle.parts.proofs.Running.may_go.Reads as may_go
+use Rattle.parts.proofs.Running.onward.Reads as onward
+use Rattle.parts.proofs.Stage.stay.Reads as stay
 use Rattle.parts.proofs.begin.Reads as begin
-use Rattle.parts.proofs.finish.Reads as finish
-use Rattle.parts.proofs.is_over.Reads as is_over
+use Rattle.parts.proofs.Stage.finish.Reads as finish
+use Rattle.parts.proofs.Stage.is_over.Reads as is_over
 use Rattle.parts.proofs.keep.Reads as keep
 use Rattle.trace.proofs.feed.Reads as feed
 use Rattle.trace.proofs.table_octets.Reads as trace_table_octets
@@ -117,15 +112,11 @@ once : {A : Type 0} {definition a b : A} → a ≡ definition → b ≡ definiti
 once p q = p ∙ sym q
 
 pub of_circuit :
-    Once both.Learnt
-    × Once either.Learnt
-    × Once bad_point_codes.Learnt
+    Once bad_point_codes.Learnt
     × Once bad_group.Learnt
     × Once lowest.Learnt
     × Once controls.Learnt
 of_circuit = (
-  λ κs a x y s t. once,
-  λ κs a x y s t. once,
   λ κs a x y s t. once,
   λ κs a x y s t. once,
   λ κs a x y s t. once,
@@ -162,30 +153,21 @@ pub of_answers :
     Once answer.Learnt
     × Once refused.Learnt
     × Once sent.Learnt
+    × Once answer_fields_of.Learnt
     × Once refusal_of.Learnt
-    × Once ind_of.Learnt
-    × Once state_of.Learnt
-    × Once flags_of.Learnt
-    × Once first_signal_of.Learnt
-    × Once second_of.Learnt
+    × Once held_of.Learnt
 of_answers = (
   λ κs a x y s t. once,
   λ κs a x y s t. once,
   λ κs a x y s t. once,
+  λ κs a x y s t h k. fields.same_fields x y (once h.0 k.0) (once h.1.0 k.1.0) (once h.1.1.0 k.1.1.0) (once h.1.1.1.0 k.1.1.1.0) (once h.1.1.1.1.0 k.1.1.1.1.0) (once h.1.1.1.1.1 k.1.1.1.1.1),
   λ κs a x y s t. once,
-  λ κs a x y s t. once,
-  λ κs a x y s t. once,
-  λ κs a x y s t. once,
-  λ κs a x y s t. once,
-  λ κs a x y s t. once,
+  λ κs a x y s t h k. fields.same_held x y (once h.0 k.0) (once h.1 k.1),
 )
 
 pub of_marks :
-    Once marks_flags_of.Learnt
-    × Once own.Learnt
-    × Once far.Learnt
-    × Once bla.Learnt
-    × Once uba.Learnt
+    Once flags_from_octet.Learnt
+    × Once octet_from_flags.Learnt
     × Once legal.Learnt
     × Once legal_in_reset.Learnt
     × Once blocked.Learnt
@@ -194,9 +176,6 @@ pub of_marks :
     × Once reset.Learnt
     × Once on_marks.Learnt
 of_marks = (
-  λ κs a x y s t. once,
-  λ κs a x y s t. once,
-  λ κs a x y s t. once,
   λ κs a x y s t. once,
   λ κs a x y s t. once,
   λ κs a x y s t. once,
@@ -247,21 +226,22 @@ pub of_step : Once step.Learnt
 of_step κs a x y s t h k = once h.0 k.0
 
 -- the table
-pub of_group : Once group_step.Learnt × Leaves (λ κs s. s.1.1.0.now) group_step.Learnt
+pub of_group : Once group_step.Learnt × Leaves (λ κs s. s.1.0.now) group_step.Learnt
 of_group = (λ κs a x y s t h k. once h.0 k.0, λ κs a x y s t h k. once h.1.1 k.1.1)
 
+-- what is told of the answer
 pub of_select : Once select.Learnt
-of_select κs a x y s t = once
+of_select κs a x y s t h k = chosen.told_once x y (once h k)
 
 pub of_formats : Once fixed_length.Learnt × Once first_bad.Learnt × Once bad_codes.Learnt × Once short.Learnt × Once above_fifteen.Learnt × Once bad_address.Learnt
 of_formats = (λ κs a x y s t. once, λ κs a x y s t. once, λ κs a x y s t. once, λ κs a x y s t. once, λ κs a x y s t. once, λ κs a x y s t. once)
 
 pub of_reader : Once read_fields.Learnt × Once read.Learnt
-of_reader = (λ κs a x y s t. once, λ κs a x y s t. once)
+of_reader = (λ κs a x y s t h k. was_read.told_once x y (once h k), λ κs a x y s t h k. was_read.told_message_once x y (once h k))
 
 -- the buffer
-pub of_writer : Once write.Learnt × Leaves (λ κs s. s.1.1.1.1.1.1.1.1.1.0.now) write.Learnt
-of_writer = (λ κs a x y s t h k. once h.0 k.0, λ κs a x y s t h k. once h.1 k.1)
+pub of_writer : Once write.Learnt × Leaves (λ κs s. s.1.1.1.0.now) write.Learnt
+of_writer = (λ κs a x y s t h k. written.told_once x y (once h.0 k.0), λ κs a x y s t h k. once h.1 k.1)
 
 -- the table of an event, the buffers of a message
 pub of_tup :
@@ -330,7 +310,6 @@ of_records = (λ κs a x y s t. once, λ κs a x y s t. once, λ κs a x y s t. 
 -- the room of the group's line and of the last one, the buffer
 pub of_parts :
     Once may_go.Learnt
-    × Once no_turn.Learnt
     × Once onward.Learnt
     × Once stay.Learnt
     × Once begin.Learnt
@@ -341,7 +320,6 @@ pub of_parts :
     × Once keep.Learnt
     × Leaves (λ κs s. s.0.now) keep.Learnt
 of_parts = (
-  λ κs a x y s t. once,
   λ κs a x y s t. once,
   λ κs a x y s t. once,
   λ κs a x y s t. once,
