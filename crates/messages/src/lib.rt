@@ -56,7 +56,7 @@ fn message_line(room: &mut [u8], ordinal: u64, g: Group, octets: &[u8]) -> usize
 {
     match reader::read_fields(g.codes, usize::from(g.circuits), octets) {
         Ok(f) => read_line(room, ordinal, f),
-        Err(e) => text::refused_line(room, ordinal, e.refusal as u8, e.place),
+        Err(e) => text::refused_line(room, ordinal, u8::from(e.refusal), e.place),
     }
 }
 

@@ -21,7 +21,13 @@ pub struct Replay;
 fn line_of(ordinal: u64, circuit: u16, answer: u64) -> Line
     ensures { result ≡ word_line ordinal circuit answer }
 {
-    let answers::Fields { refusal, ind, held, first, second } = answers::fields_of(answer);
+    let answers::Fields {
+        refusal,
+        ind,
+        held,
+        first,
+        second,
+    } = answers::fields_of(answer);
     Line {
         ordinal,
         circuit,
