@@ -25,18 +25,10 @@ fn is_choice(got: u64, refusal: u32, circuit: u32, looked: u32) -> bool {
 // A case says the two codes, the table's octets and what stands in each, the answer, and the first circuit whose record it gives, with three
 // numbers for each record. Everywhere beside these stands the one octet, the counter included, which selection does not read.
 pub(crate) fn right(case: &[u32]) -> bool {
-    let &[
-        own,
-        far,
-        octets,
-        beside,
-        refusal,
-        circuit,
-        looked,
-        first,
-        ref given @ ..,
-    ] = case
-    else {
+    let &[own, far, octets, beside, ref rest @ ..] = case else {
+        return false;
+    };
+    let &[refusal, circuit, looked, first, ref given @ ..] = rest else {
         return false;
     };
     let (given, []) = given.as_chunks::<3>() else {

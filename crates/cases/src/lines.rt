@@ -10,10 +10,11 @@ fn digit(octet: u8) -> Option<u32> {
 
 // The number of these digits; what is no digit among them is passed over, and of a number too large the upper bits are lost.
 fn value(base: u32, digits: &[u8]) -> u32 {
-    digits.iter().filter_map(|octet| digit(*octet)).fold(
-        0,
-        |value: u32, digit| (value % 0x1000000).wrapping_mul(base).wrapping_add(digit),
-    )
+    let mut value = 0u32;
+    for digit in digits.iter().filter_map(|octet| digit(*octet)) {
+        value = (value % 0x1000000).wrapping_mul(base).wrapping_add(digit);
+    }
+    value
 }
 
 // The number that a word says; none where it has no digit.

@@ -56,19 +56,10 @@ pub(crate) fn read_right(case: &[u32]) -> bool {
 // A case of the writer: own code, far code, records, circuit, heading, ACM's octet, category, indicators; the address with its length
 // before it; the buffer's length, the refusal, the octets.
 pub(crate) fn write_right(case: &[u32]) -> bool {
-    let &[
-        own,
-        far,
-        records,
-        cic,
-        heading,
-        acm,
-        category,
-        indicators,
-        length,
-        ref rest @ ..,
-    ] = case
-    else {
+    let &[own, far, records, cic, heading, ref rest @ ..] = case else {
+        return false;
+    };
+    let &[acm, category, indicators, length, ref rest @ ..] = rest else {
         return false;
     };
     let Some((signals, &[room, refusal, ref written @ ..])) = rest.split_at_checked(length as usize)

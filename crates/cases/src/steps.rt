@@ -62,31 +62,19 @@ fn is_answer(got: u64, answer: &[u32]) -> bool {
 // A case says the two codes, the table's octets and what stands in them, the circuit, its state and flags; the event by kind, code and detail;
 // and the answer, of which state and flags are those that the circuit is left in.
 pub(crate) fn right(case: &[u32]) -> bool {
-    let &[
-        own,
-        far,
-        octets,
-        beside,
-        cic,
-        state,
-        flags,
-        kind,
-        code,
-        detail,
-        ref answer @ ..,
-    ] = case
-    else {
+    let &[own, far, octets, beside, cic, state, flags, ref rest @ ..] = case else {
+        return false;
+    };
+    let &[kind, code, detail, ref answer @ ..] = rest else {
         return false;
     };
     let &[refusal, left, left_flags, _, _, _] = answer else {
         return false;
     };
+    let n = octets as usize;
     let mut space = [0u8; LONGEST];
-    let Some(table) = space.get_mut(..octets as usize) else {
-        return false;
-    };
     let mut other = [0u8; LONGEST];
-    let Some(wanted) = other.get_mut(..octets as usize) else {
+    let (Some(table), Some(wanted)) = (space.get_mut(..n), other.get_mut(..n)) else {
         return false;
     };
     let before = Laid::before(beside, cic, state, flags);
