@@ -1,9 +1,9 @@
--- Short international numbers: what a loop over the signals has counted, and by what a number is short or not.
+-- Short international numbers: how many signals are counted, and by what a number is short or not.
 -- Assumes nothing.
 use mathlib.Core.Path.{◌≡◌, refl, sym, ap, ◌∙◌}
-use mathlib.Core.Bool.{Bool, true, false, cond, not, ◌&&◌, ◌||◌, and-true, and-false}
+use mathlib.Core.Bool.{Bool, true, false, cond, not, ◌&&◌, ◌||◌, and-false}
 use mathlib.Core.List.{List, [], ◌∷◌}
-use Prim.Native.Nat.{ℕ, suc, ◌%◌, ◌<◌, ◌≤◌, min}
+use Prim.Native.Nat.{ℕ, suc, ◌<◌, ◌≤◌, min}
 use native.Mathlib.Omega.{arith}
 use borrow.Author.Tests.{ltb-true, ltb-false, lt-ltb, le-ltb, eq-eqb, ne_eqb}
 use lib.Dec.{eqb, ltb}
@@ -39,37 +39,19 @@ four s =
 
 -- THE FIRST SIGNAL
 
-pub nobody : (s : List ℕ) → length s ≡ 0 → false ≡ to_operator s
-nobody [] e = refl
-nobody (code ∷ rest) e = absurd (omega arith)
-
 pub by_eleven : (s : List ℕ) → (length s ≡ 0 → ⊥) → get_or s 0 0 ≡ 11 → true ≡ to_operator s
 by_eleven [] some e = absurd (some refl)
 by_eleven (code ∷ rest) some e = sym (ap (λ (b : Bool). b || eqb code 12) (eq-eqb _ _ e))
 
-pub by_twelve : (s : List ℕ) → (length s ≡ 0 → ⊥) → (get_or s 0 0 ≡ 11 → ⊥) → eqb (get_or s 0 0) 12 ≡ to_operator s
-by_twelve [] some e = absurd (some refl)
-by_twelve (code ∷ rest) some e = sym (ap (λ (b : Bool). b || eqb code 12) (ne_eqb _ _ e))
-
 -- WHETHER A NUMBER IS SHORT
 
 module _ (indicators : ℕ) (s : List ℕ) where
-  -- by the nature of address alone, by its first signal, or by how many there are
-  pub otherwise : (indicators % 4 ≡ 3 → ⊥) → short indicators s ≡ false
-  unfolding short
-  otherwise h = ap (λ (b : Bool). b && (ltb (besides_st s) 4 && not (to_operator s))) (ne_eqb _ _ h)
-
+  -- by its first signal, or by how many there are
   pub exempt : to_operator s ≡ true → short indicators s ≡ false
   unfolding short
   exempt e =
       ap (λ (b : Bool). international indicators && (ltb (besides_st s) 4 && not b)) e ∙ ap (λ (b : Bool). international indicators && b) (and-false (ltb (besides_st s) 4))
       ∙ and-false (international indicators)
-
-  pub by_count : indicators % 4 ≡ 3 → to_operator s ≡ false → ltb (besides_st s) 4 ≡ short indicators s
-  unfolding short
-  by_count h e =
-      sym (ap (λ (b : Bool). international indicators && (ltb (besides_st s) 4 && not b)) e ∙ ap (λ (b : Bool). b && (ltb (besides_st s) 4 && true)) (eq-eqb _ _ h)
-      ∙ and-true (ltb (besides_st s) 4))
 
   pub long_enough : 4 ≤ besides_st s → short indicators s ≡ false
   unfolding short

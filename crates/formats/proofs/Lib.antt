@@ -1,5 +1,4 @@
 pub mod Signals
-pub mod Addresses
 pub mod Few
 pub mod Lengths
 pub mod Stores

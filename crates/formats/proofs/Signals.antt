@@ -1,62 +1,17 @@
--- Address signals one after the other: what a loop over them has seen.
+-- Address signals one after the other: whether some is one that a test fits, and where the first such stands.
 -- Assumes nothing.
 use mathlib.Core.Path.{◌≡◌, refl, sym, ap, ap₂, ◌∙◌}
 use mathlib.Core.Bool.{Bool, true, false, cond, ◌||◌, or-true}
 use mathlib.Core.List.{List, [], ◌∷◌}
 use Prim.Native.Nat.compare
-use Prim.Native.Nat.{ℕ, zero, suc, ◌+◌, ◌-◌, ◌<◌, ◌≤◌}
-use native.Mathlib.Nat.{add-zero}
-use native.Mathlib.Numerals.{add-one}
+use Prim.Native.Nat.{ℕ, zero, suc, ◌<◌, ◌≤◌}
 use native.Mathlib.Omega.{arith}
-use borrow.Author.Tests.{ltb-true, ltb-false, lt-ltb, le-ltb}
+use borrow.Author.Tests.{ltb-false, lt-ltb, le-ltb}
 use lib.Dec.{ltb, is_le}
-use lib.ListN.{length, get_or, drop, length-drop, drop_of_length-le}
-use lib.Seq.{drop-cons}
+use lib.ListN.{length, get_or}
 use Rattle.std.specs.Bool.{MatchBool}
 use Rattle.std.specs.List.{AllWithin, HoldsAt}
 use Rattle.formats.specs.Octets.{some_signal, before_signal, above_fifteen}
-
-more : (s : List ℕ) (i : ℕ) → ltb 0 (length (drop (suc i) s)) ≡ ltb (i + 1) (length s)
-more s i = ap (ltb 0) (length-drop (suc i) s) ∙ go (ltb (i + 1) (length s)) refl
-  where
-    go : (b : Bool) → ltb (i + 1) (length s) ≡ b → ltb 0 (length s - suc i) ≡ ltb (i + 1) (length s)
-    go true e = let h : i + 1 < length s = ltb-true _ _ e in lt-ltb 0 (length s - suc i) (omega arith) ∙ sym e
-    go false e = let h : length s ≤ i + 1 = ltb-false _ _ e in le-ltb 0 (length s - suc i) (omega arith) ∙ sym e
-
-module _ (test : ℕ → Bool → Bool) (s : List ℕ) (i : ℕ) where
-  turn : i < length s → some_signal test (drop i s) ≡ (test (get_or s i 0) (ltb (i + 1) (length s)) || some_signal test (drop (i + 1) s))
-  turn h = rw (drop-cons s i 0 h, more s i, add-one i)
-
-  abbrev fitting : Bool → ℕ
-  fitting b = cond b 0 (suc (before_signal test (drop (i + 1) s)))
-
-  next : i < length s → before_signal test (drop i s) ≡ fitting (test (get_or s i 0) (ltb (i + 1) (length s)))
-  next h = rw (drop-cons s i 0 h, more s i, add-one i)
-
-  -- a loop that has passed i signals, none of which the test fits, passes one more
-  pub passes : i < length s → test (get_or s i 0) (ltb (i + 1) (length s)) ≡ false → some_signal test s ≡ some_signal test (drop i s)
-      → some_signal test s ≡ some_signal test (drop (i + 1) s)
-  passes h e p = p ∙ turn h ∙ ap (λ (b : Bool). b || some_signal test (drop (i + 1) s)) e
-
-  -- it meets one that the test fits
-  pub meets : i < length s → test (get_or s i 0) (ltb (i + 1) (length s)) ≡ true → some_signal test s ≡ some_signal test (drop i s)
-      → some_signal test s ≡ true
-  meets h e p = p ∙ turn h ∙ ap (λ (b : Bool). b || some_signal test (drop (i + 1) s)) e
-
-  -- it comes to the end
-  pub ends : length s ≤ i → some_signal test s ≡ some_signal test (drop i s) → some_signal test s ≡ false
-  ends h p = p ∙ ap (some_signal test) (drop_of_length-le s h)
-
-  -- the same of a loop that counts the signals before the first that the test fits
-  pub counts : i < length s → test (get_or s i 0) (ltb (i + 1) (length s)) ≡ false → before_signal test s ≡ i + before_signal test (drop i s)
-      → before_signal test s ≡ i + 1 + before_signal test (drop (i + 1) s)
-  counts h e p = let q : before_signal test (drop i s) ≡ suc (before_signal test (drop (i + 1) s)) = next h ∙ ap fitting e in omega arith
-
-  pub counted : i < length s → test (get_or s i 0) (ltb (i + 1) (length s)) ≡ true → before_signal test s ≡ i + before_signal test (drop i s) → before_signal test s ≡ i
-  counted h e p = let q : before_signal test (drop i s) ≡ 0 = next h ∙ ap fitting e in omega arith
-
-  pub counted_all : length s ≤ i → before_signal test s ≡ i + before_signal test (drop i s) → before_signal test s ≡ i
-  counted_all h p = p ∙ ap (λ (l : List ℕ). i + before_signal test l) (drop_of_length-le s h) ∙ add-zero i
 
 -- signal by signal: no signal is one that the test fits, and none is of those before the first
 shifted : (a b : ℕ) → ltb (suc a) (suc b) ≡ ltb a b

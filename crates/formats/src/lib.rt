@@ -145,7 +145,7 @@ fn few_signals(address: &[u8]) -> bool
 pub fn short(indicators: u32, address: &[u8]) -> bool
     ensures { result ≡ short indicators address.now }
 {
-    indicators % NATURES == INTERNATIONAL && (few_signals(address) && !to_operator(address))
+    indicators % NATURES == INTERNATIONAL && !to_operator(address) && few_signals(address)
 }
 
 // Whether an address signal is above 15.

@@ -7,7 +7,7 @@ use Prim.Native.Nat.{ℕ, ◌+◌, ◌*◌, ◌/◌, ◌%◌, ◌^◌, ◌<◌, 
 use native.Mathlib.Omega.{arith}
 use borrow.Author.Tests.{lt-ltb, le-ltb, le-leb, lt-leb, eq-eqb, ne_eqb}
 use lib.Dec.{eqb, ltb, leb}
-use lib.ListN.{length, get_or, take, drop, length-drop, length-append}
+use lib.ListN.{length, get_or, take, drop, length-drop}
 use lib.Seq.{length-take-le, take_at, get_or-drop}
 use Rattle.circuit.specs.Groups.{bad_group}
 use Rattle.circuit.specs.declared.Cic.{Cic}
@@ -17,7 +17,7 @@ use Rattle.formats.specs.Messages.{iam_format, among_own, own_formats, headed, f
 use Rattle.formats.specs.Octets.{bad_codes, first_bad, short}
 use Rattle.formats.specs.Way.{halves}
 use Rattle.formats.proofs.ByHeading.{an_acm, neither, signals_of_iam, iam_octets, signal_octets, fixed_lengths}
-use Rattle.formats.proofs.Places.{dpc_there, opc_there, cic_there, heading_there, acm_there, category_there, indicators_there, count_there, behind_iam, signals_there}
+use Rattle.formats.proofs.Places.{dpc_there, opc_there, heading_there, acm_there, category_there, indicators_there, count_there, behind_iam, signals_there}
 use Rattle.formats.proofs.Lengths.{length_if, missing, no_length, a_length}
 use Rattle.std.proofs.lemmas.Option.{cond_some}
 use Rattle.std.specs.Prelude.{Option, Some, None}
@@ -264,12 +264,6 @@ module _ (records : ℕ) (xs : List ℕ) (w : ℕ) (codes : List ℕ) (k : Spelt
   how_many : length (take c (halves (drop 9 xs))) ≡ c
   how_many = length-take-le c (halves (drop 9 xs)) (let l = k.long in omega (arith, length_halves (drop 9 xs), length-drop 9 xs))
 
-  pub room : c ≤ length codes
-  room = rw (k.signals, length-append, how_many) (omega arith)
-
-  pub prefix : c ≡ length (take c codes)
-  prefix = sym (length-take-le c codes room)
-
   there : address records xs ≡ take c (halves (drop 9 xs))
   there =
       ap (λ (v : ℕ). get_each 4 v (above (headed iam_format).fields (number_of xs))) (count records xs k.octets w k.word)
@@ -348,6 +342,3 @@ module _ (label : ℕ) (xs : List ℕ) (octets : (i : ℕ) → get_or xs i 0 < 2
 
   pub stray_at : (own : ℕ) → cond (eqb (label % 2 ^ 14) own) 1 0 ≡ stray_octet own xs
   stray_at own = rw (dpc_there xs octets, ← is)
-
-  pub the_circuit : label / 2 ^ 28 ≡ cic_in xs
-  the_circuit = ap (λ (l : ℕ). l / 2 ^ 28) is ∙ sym (cic_there xs octets)

@@ -70,7 +70,7 @@ fn half_of(octet: u8, place: usize) -> u8
     }
 }
 
-// The address signals of an IAM.
+// The address signals of an IAM. The loop goes by index: of what it wrote through an adapter of iter_mut a proof would know nothing.
 fn codes_in(octets: &[u8], count: usize) -> [u8; 15]
     requires { (count ≤ 15) × (9 + half count ≤ length octets.now) }
     ensures { result ≡ over (take count (halves (drop 9 octets.now))) no_codes }
@@ -121,7 +121,7 @@ fn read_iam(records: usize, circuit: Cic, octets: &[u8]) -> Result<Fields, Fault
     }
     Ok(Fields {
         circuit,
-        heading: formats::IAM as u8,
+        heading: names::IAM,
         acm: 0,
         category: octets[6] % SPARE_BITS,
         indicators,
@@ -136,7 +136,7 @@ fn read_body(records: usize, circuit: Cic, octets: &[u8]) -> Result<Fields, Faul
     ensures { told result ≡ body_of records (get_or octets.now 5 0) octets.now }
 {
     let heading = octets[5];
-    if heading == formats::IAM as u8 {
+    if heading == names::IAM {
         return read_iam(records, circuit, octets);
     }
     let Some(fixed) = formats::fixed_length(u32::from(heading)) else {
@@ -148,7 +148,7 @@ fn read_body(records: usize, circuit: Cic, octets: &[u8]) -> Result<Fields, Faul
     if records <= circuit.0 as usize {
         return Err(Fault::new(Refusal::NoSuchCircuit, formats::CIC_OCTET));
     }
-    let acm = if heading == formats::ACM as u8 {
+    let acm = if heading == names::ACM {
         octets[6] % SPARE_BITS
     } else {
         0

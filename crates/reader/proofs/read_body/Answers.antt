@@ -5,21 +5,21 @@ use Rattle.reader.proofs.Bodies.{looked_none, looked_long, looked_beyond, looked
 use Rattle.reader.proofs.read_body.Goals as goal
 
 pub returns-in_default : goal.returns-in_default
-returns-in_default c = c.new.ensures ∙ sym (looked_none _ _ _ (λ i. (c.type_inv.octets i).fits) c.if-heading.false (sym (rw c.from.ensures at c.fixed_length.ensures) ∙ c.in_default.is))
+returns-in_default c = c.new.ensures ∙ sym (looked_none _ _ _ (λ i. (c.type_inv.octets i).fits) c.if-heading-eq-IAM.false (sym (rw c.from.ensures at c.fixed_length.ensures) ∙ c.in_default.is))
 
 pub returns-then-octets-fixed : goal.returns-then-octets-fixed
 returns-then-octets-fixed c =
-    c.wrong_length.ensures ∙ sym (looked_long _ _ _ (λ i. (c.type_inv.octets i).fits) c.if-heading.false _ (sym (rw c.from.ensures at c.fixed_length.ensures) ∙ c.in-Some.is) c.if-octets-fixed.true)
+    c.wrong_length.ensures ∙ sym (looked_long _ _ _ (λ i. (c.type_inv.octets i).fits) c.if-heading-eq-IAM.false _ (sym (rw c.from.ensures at c.fixed_length.ensures) ∙ c.in-Some.is) c.if-octets-fixed.true)
 
 pub returns-then-records-circuit : goal.returns-then-records-circuit
 returns-then-records-circuit c =
     c.new-then-records-circuit.ensures
-    ∙ sym (looked_beyond _ _ _ (λ i. (c.type_inv.octets i).fits) c.if-heading.false _ (sym (rw c.from.ensures at c.fixed_length.ensures) ∙ c.in-Some.is) c.if-octets-fixed.false _ c.requires.1 c.if-records-circuit.true)
+    ∙ sym (looked_beyond _ _ _ (λ i. (c.type_inv.octets i).fits) c.if-heading-eq-IAM.false _ (sym (rw c.from.ensures at c.fixed_length.ensures) ∙ c.in-Some.is) c.if-octets-fixed.false _ c.requires.1 c.if-records-circuit.true)
 
-pub returns-then-heading-2 : goal.returns-then-heading-2
-returns-then-heading-2 c =
-    sym (looked_acm _ _ _ (λ i. (c.type_inv.octets i).fits) c.if-heading.false _ (sym (rw c.from.ensures at c.fixed_length.ensures) ∙ c.in-Some.is) c.if-octets-fixed.false _ c.requires.1 c.if-records-circuit.false c.if-heading-2.true)
+pub returns-then-heading-eq-ACM : goal.returns-then-heading-eq-ACM
+returns-then-heading-eq-ACM c =
+    sym (looked_acm _ _ _ (λ i. (c.type_inv.octets i).fits) c.if-heading-eq-IAM.false _ (sym (rw c.from.ensures at c.fixed_length.ensures) ∙ c.in-Some.is) c.if-octets-fixed.false _ c.requires.1 c.if-records-circuit.false c.if-heading-eq-ACM.true)
 
-pub returns-else-heading-2 : goal.returns-else-heading-2
-returns-else-heading-2 c =
-    sym (looked_plain _ _ _ (λ i. (c.type_inv.octets i).fits) c.if-heading.false _ (sym (rw c.from.ensures at c.fixed_length.ensures) ∙ c.in-Some.is) c.if-octets-fixed.false _ c.requires.1 c.if-records-circuit.false c.if-heading-2.false)
+pub returns-else-heading-eq-ACM : goal.returns-else-heading-eq-ACM
+returns-else-heading-eq-ACM c =
+    sym (looked_plain _ _ _ (λ i. (c.type_inv.octets i).fits) c.if-heading-eq-IAM.false _ (sym (rw c.from.ensures at c.fixed_length.ensures) ∙ c.in-Some.is) c.if-octets-fixed.false _ c.requires.1 c.if-records-circuit.false c.if-heading-eq-ACM.false)
