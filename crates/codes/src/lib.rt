@@ -3,7 +3,7 @@
 
 ghost use Rattle.std.specs.Prelude.{◌≡◌, ◌<◌};
 ghost use Rattle.codes.specs.Headings.{failure_heading, failure_of, signal_of};
-ghost use Rattle.codes.specs.Numbers.{bare, signal_event, complete, answer, fail_with, command_event, timer_event, event_of};
+ghost use Rattle.codes.specs.Numbers.{signal_event, complete, answer, fail_with, command_event, timer_event, event_of};
 
 use circuit::{AddressType, Charging, Command, Event, Failure, Signal, Timer};
 
@@ -70,13 +70,6 @@ pub fn signal_of(heading: u32, octet: u8) -> Option<Signal>
     }
 }
 
-// An event whose only detail is 0.
-fn bare(detail: u32, e: Event) -> Option<Event>
-    ensures { result ≡ bare detail e }
-{
-    if detail == 0 { Some(e) } else { None }
-}
-
 // A signal with a detail that is not 0: an ACM with its octet.
 fn with_octet(code: u32, detail: u32) -> Option<Event>
     requires { 0 < detail }
@@ -135,17 +128,17 @@ fn fail_with(heading: u32) -> Option<Event>
 fn command_event(code: u32, detail: u32) -> Option<Event>
     ensures { result ≡ command_event code detail }
 {
-    match code {
-        1 => bare(detail, Event::Ordered(Command::Seize)),
-        2 => bare(detail, Event::Ordered(Command::Release)),
-        3 => complete(detail),
-        4 => answer(detail),
-        5 => bare(detail, Event::Ordered(Command::ClearBack)),
-        6 => bare(detail, Event::Ordered(Command::ReAnswer)),
-        7 => fail_with(detail),
-        8 => bare(detail, Event::Ordered(Command::Block)),
-        9 => bare(detail, Event::Ordered(Command::Unblock)),
-        10 => bare(detail, Event::Ordered(Command::Restart)),
+    match (code, detail) {
+        (1, 0) => Some(Event::Ordered(Command::Seize)),
+        (2, 0) => Some(Event::Ordered(Command::Release)),
+        (3, _) => complete(detail),
+        (4, _) => answer(detail),
+        (5, 0) => Some(Event::Ordered(Command::ClearBack)),
+        (6, 0) => Some(Event::Ordered(Command::ReAnswer)),
+        (7, _) => fail_with(detail),
+        (8, 0) => Some(Event::Ordered(Command::Block)),
+        (9, 0) => Some(Event::Ordered(Command::Unblock)),
+        (10, 0) => Some(Event::Ordered(Command::Restart)),
         _ => None,
     }
 }
@@ -153,13 +146,13 @@ fn command_event(code: u32, detail: u32) -> Option<Event>
 fn timer_event(code: u32, detail: u32) -> Option<Event>
     ensures { result ≡ timer_event code detail }
 {
-    match code {
-        1 => bare(detail, Event::RunsOut(Timer::AddressWait)),
-        2 => bare(detail, Event::RunsOut(Timer::AnswerWait)),
-        3 => bare(detail, Event::RunsOut(Timer::IncomingHangUp)),
-        4 => bare(detail, Event::RunsOut(Timer::Repeat)),
-        5 => bare(detail, Event::RunsOut(Timer::OneMinute)),
-        6 => bare(detail, Event::RunsOut(Timer::BlockRepeat)),
+    match (code, detail) {
+        (1, 0) => Some(Event::RunsOut(Timer::AddressWait)),
+        (2, 0) => Some(Event::RunsOut(Timer::AnswerWait)),
+        (3, 0) => Some(Event::RunsOut(Timer::IncomingHangUp)),
+        (4, 0) => Some(Event::RunsOut(Timer::Repeat)),
+        (5, 0) => Some(Event::RunsOut(Timer::OneMinute)),
+        (6, 0) => Some(Event::RunsOut(Timer::BlockRepeat)),
         _ => None,
     }
 }
