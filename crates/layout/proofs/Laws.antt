@@ -22,19 +22,14 @@ use Rattle.layout.specs.Layout.{counter_octets, record_octets, table_octets, rec
 
 -- a circuit's octets one by one, as the program reads them
 module _ (table : List ℕ) (i at : ℕ) (place : at ≡ table_octets i) where
-  pub octets_at : (rank : ℕ) → at + record_octets ≤ length table
-      → rank ≡ get_or table (at + 2) 0 + 256 * (get_or table (at + 3) 0 + 256 * (get_or table (at + 4) 0 + 256 * (get_or table (at + 5) 0 + 256 * (get_or table (at + 6) 0 + 256 * (get_or table (at + 7) 0 + 256 * (get_or table (at + 8) 0 + 256 * get_or table (at + 9) 0))))))
-      → stored (get_or table at 0) (get_or table (at + 1) 0) rank ≡ stored_at table i
+  pub octets_at : (bs : List ℕ) (rank : ℕ) → at + record_octets ≤ length table → ((k : ℕ) → k < record_octets → get_or bs k 0 ≡ get_or table (at + k) 0)
+      → rank ≡ get_or bs 2 0 + 256 * (get_or bs 3 0 + 256 * (get_or bs 4 0 + 256 * (get_or bs 5 0 + 256 * (get_or bs 6 0 + 256 * (get_or bs 7 0 + 256 * (get_or bs 8 0 + 256 * get_or bs 9 0))))))
+      → stored (get_or bs 0 0) (get_or bs 1 0) rank ≡ stored_at table i
   unfolding state_at flags_at rank_at
-  octets_at rank there e =
-      let p₁ : at + 2 + 1 ≡ at + 3 = omega arith in
-      let p₂ : at + 2 + 2 ≡ at + 4 = omega arith in
-      let p₃ : at + 2 + 3 ≡ at + 5 = omega arith in
-      let p₄ : at + 2 + 4 ≡ at + 6 = omega arith in
-      let p₅ : at + 2 + 5 ≡ at + 7 = omega arith in
-      let p₆ : at + 2 + 6 ≡ at + 8 = omega arith in
-      let p₇ : at + 2 + 7 ≡ at + 9 = omega arith in
-      rw (e, ← place, le-leb (at + record_octets) (length table) there, words.octets table (at + 2), p₁, p₂, p₃, p₄, p₅, p₆, p₇)
+  octets_at bs rank there same e =
+      let is : (k j : ℕ) → j < record_octets → at + j ≡ k → get_or bs j 0 ≡ get_or table k 0 = λ k j h p. rw (same j h, p) refl in
+      let none : get_or bs 0 0 ≡ get_or table at 0 = is at 0 (omega arith) (omega arith) in
+      rw (e, ← place, le-leb (at + record_octets) (length table) there, words.octets table (at + 2), none, is (at + 1) 1 (omega arith) refl, is (at + 2) 2 (omega arith) refl, is (at + 2 + 1) 3 (omega arith) (omega arith), is (at + 2 + 2) 4 (omega arith) (omega arith), is (at + 2 + 3) 5 (omega arith) (omega arith), is (at + 2 + 4) 6 (omega arith) (omega arith), is (at + 2 + 5) 7 (omega arith) (omega arith), is (at + 2 + 6) 8 (omega arith) (omega arith), is (at + 2 + 7) 9 (omega arith) (omega arith)) refl
 
   pub no_octets : length table < at + record_octets → stored 0 0 0 ≡ stored_at table i
   no_octets h = rw (← place, lt-leb (at + record_octets) (length table) h)

@@ -31,6 +31,7 @@ pub fn table_octets(circuits: u32) -> usize
 }
 
 // How many records a table of this length holds; 0 if it is not a counter and whole records.
+#[tactic(auto, using(crate::proofs::Laws::short_records), unfolding(crate::specs::Layout::records_in))]
 pub fn records(octets: usize) -> usize
     ensures { result ≡ records_in octets }
 {
@@ -46,6 +47,7 @@ pub fn records(octets: usize) -> usize
 }
 
 // Whether a table of this length holds no records or more than a group may have, or is not a counter and whole records.
+#[tactic(auto, using(crate::proofs::Laws::too_short, crate::proofs::Laws::too_long, crate::proofs::Laws::by_rest))]
 pub fn bad_length(octets: usize) -> bool
     ensures { result ≡ bad_length octets }
 {
@@ -61,6 +63,7 @@ pub fn ends_before(octets: usize, cic: Cic) -> bool
     octets < table_octets(cic.0) + RECORD_OCTETS
 }
 
+#[tactic(auto, unfolding(crate::specs::Layout::counter_in))]
 pub fn counter_in(table: &[u8]) -> u64
     ensures { result ≡ counter_in table.now }
 {
@@ -72,24 +75,23 @@ pub fn stored_at(table: &[u8], cic: Cic) -> Stored
     ensures { result ≡ stored_at table.now cic.0 }
 {
     let at = table_octets(cic.0);
-    if table.len() < at + RECORD_OCTETS {
-        return Stored { held: Held { state: 0, flags: 0 }, rank: 0 };
+    let Some([state, flags, a, b, c, d, e, f, g, h]) = table.get(at..at + RECORD_OCTETS) else {
+        return Stored {
+            held: Held { state: 0, flags: 0 },
+            rank: 0,
+        };
+    };
+    Stored {
+        held: Held {
+            state: *state,
+            flags: *flags,
+        },
+        rank: words::number(*a, *b, *c, *d, *e, *f, *g, *h),
     }
-    let rank = words::number(
-        table[at + 2],
-        table[at + 3],
-        table[at + 4],
-        table[at + 5],
-        table[at + 6],
-        table[at + 7],
-        table[at + 8],
-        table[at + 9],
-    );
-    let held = Held { state: table[at], flags: table[at + 1] };
-    Stored { held, rank }
 }
 
 // Whether what is held is a legal record (docs/RULES.md, "Records"): refusal 12 is for the others.
+#[tactic(auto, using(crate::proofs::Laws::allowed_below, crate::proofs::Laws::allowed_in_reset, crate::proofs::Laws::allowed_above))]
 pub fn allowed(held: Held) -> bool
     ensures { result ≡ allowed held.state held.flags }
 {
@@ -101,6 +103,7 @@ pub fn allowed(held: Held) -> bool
 }
 
 // Puts what is held of a circuit, which keeps its rank.
+#[tactic(auto, unfolding(crate::specs::Layout::put_octets))]
 pub fn put(table: &mut [u8], cic: Cic, held: Held)
     ensures { table.new ≡ put_octets table.old cic.0 held.state held.flags }
 {
@@ -109,12 +112,14 @@ pub fn put(table: &mut [u8], cic: Cic, held: Held)
     words::put_octet(table, at, 1, held.flags);
 }
 
+#[tactic(auto, unfolding(crate::specs::Layout::put_counter))]
 pub fn put_counter(table: &mut [u8], count: u64)
     ensures { table.new ≡ put_counter table.old count }
 {
     words::put_word(table, 0, count);
 }
 
+#[tactic(auto, unfolding(crate::specs::Layout::put_rank))]
 pub fn put_rank(table: &mut [u8], cic: Cic, rank: u64)
     ensures { table.new ≡ put_rank table.old cic.0 rank }
 {
