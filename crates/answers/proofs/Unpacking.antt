@@ -1,7 +1,6 @@
 -- An answer whose fields are octets comes back from its number.
 -- Assumes nothing.
-use mathlib.Core.Path.{◌≡◌}
-use Prim.Native.Nat.{ℕ, ◌<◌, ◌/◌, ◌%◌}
+use Prim.Native.Nat.{◌<◌}
 use native.Mathlib.Omega.{arith}
 use Rattle.circuit.specs.declared.Failure.{Failure}
 use Rattle.circuit.specs.declared.Failure.TheVariants.{Sec, Cgc, Nnc, Adi, Cfl, Ssb, Unn, Los, Sst}
@@ -10,7 +9,7 @@ use Rattle.circuit.specs.declared.Signal.TheVariants.{Iam, Acm, Anc, Ann, Cbk, C
 use Rattle.circuit.specs.declared.Sends.{Sends}
 use Rattle.circuit.specs.declared.Sends.TheVariants.{Nothing, One, Two}
 use Rattle.codes.specs.Headings.{failure_heading, heading_of, first_heading, second_heading}
-use Rattle.answers.specs.Answers.{Answer, word, packed, Unpacked}
+use Rattle.answers.specs.Answers.{Answer, packed, Unpacked}
 
 failure_octet : (f : Failure) → failure_heading f < 256
 failure_octet Sec = omega arith
@@ -49,49 +48,8 @@ second_octet Nothing = omega arith
 second_octet (One s) = omega arith
 second_octet (Two s t) = heading_octet t
 
-module _ (n i s f a b : ℕ) (hn : n < 256) (hi : i < 256) (hs : s < 256) (hf : f < 256) (ha : a < 256) (hb : b < 256) where
-  field₀ : word n i s f a b % 256 ≡ n
-  field₀ = omega arith
-
-  field₁ : word n i s f a b / 0x100 % 256 ≡ i
-  field₁ = omega arith
-
-  field₂ : word n i s f a b / 0x10000 % 256 ≡ s
-  field₂ = omega arith
-
-  field₃ : word n i s f a b / 0x1000000 % 256 ≡ f
-  field₃ = omega arith
-
-  field₄ : word n i s f a b / 0x100000000 % 256 ≡ a
-  field₄ = omega arith
-
-  field₅ : word n i s f a b / 0x10000000000 % 256 ≡ b
-  field₅ = omega arith
-
 pub unpacked : (a : Answer) → a.refusal < 256 → a.ind < 256 → a.state < 256 → a.flags < 256 → Unpacked (packed a) a
-unpacked a hn hi hs hf = record {
-  refusal = field₀ n i s f x y hn hi hs hf (first_octet a.sends) (second_octet a.sends);
-  ind = field₁ n i s f x y hn hi hs hf (first_octet a.sends) (second_octet a.sends);
-  state = field₂ n i s f x y hn hi hs hf (first_octet a.sends) (second_octet a.sends);
-  flags = field₃ n i s f x y hn hi hs hf (first_octet a.sends) (second_octet a.sends);
-  first = field₄ n i s f x y hn hi hs hf (first_octet a.sends) (second_octet a.sends);
-  second = field₅ n i s f x y hn hi hs hf (first_octet a.sends) (second_octet a.sends);
-}
-  where
-    n : ℕ
-    n = a.refusal
-
-    i : ℕ
-    i = a.ind
-
-    s : ℕ
-    s = a.state
-
-    f : ℕ
-    f = a.flags
-
-    x : ℕ
-    x = first_heading a.sends
-
-    y : ℕ
-    y = second_heading a.sends
+unpacked a hn hi hs hf =
+    let x = first_octet a.sends in
+    let y = second_octet a.sends in
+    record { refusal = omega arith; ind = omega arith; state = omega arith; flags = omega arith; first = omega arith; second = omega arith }
