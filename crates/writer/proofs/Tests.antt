@@ -1,17 +1,16 @@
 -- Tests one after the other: the first that holds decides.
 -- Assumes nothing.
-use mathlib.Core.Path.{◌≡◌, refl, sym, ap, ◌∙◌, subst}
+use mathlib.Core.Path.{◌≡◌, refl, subst}
 use mathlib.Core.Bool.{Bool, true, false, cond, ◌||◌}
-use Prim.Native.Nat.{ℕ, ◌<◌, ◌≤◌}
+use Prim.Native.Nat.{ℕ, ◌≤◌}
 use mathlib.Core.List.{List}
-use native.Mathlib.Omega.{arith}
-use borrow.Author.Tests.{lt-ltb, le-ltb, ltb-false, eq-eqb, ne_eqb, eqb-false}
+use borrow.Author.Tests.{ltb-false, eqb-false}
 use lib.Dec.{T, eqb, ltb}
 use lib.ListN.{length}
 use Rattle.circuit.proofs.Groups.{none}
 use Rattle.formats.specs.Octets.{bad_codes, above_fifteen}
 use Rattle.formats.specs.Format.{ACM, CATEGORY, INDICATORS, most}
-use Rattle.formats.specs.Messages.{format_of, has_signals, is_iam, is_acm}
+use Rattle.formats.specs.Messages.{format_of, has_signals}
 use Rattle.formats.proofs.ByHeading.{signals_of_iam, acm_most, category_most, indicators_most}
 use Rattle.writer.specs.Writing.{Said, too_large, bad_address}
 use Rattle.writer.specs.Way.{over_limits}

@@ -20,7 +20,7 @@ use Rattle.formats.proofs.ByHeading.{an_iam, an_acm, neither, signals_of_iam, fi
 use Rattle.formats.proofs.Lengths.{octet}
 use Rattle.formats.proofs.Places.{head_put, acm_put, nothing_put, iam_put}
 use Rattle.words.specs.Octets.{low_first, over}
-use Rattle.writer.specs.Writing.{Said, Written, too_large, bad_address, content_said, octets_of, Outcome, unwritten, putting, writing}
+use Rattle.writer.specs.Writing.{Said, too_large, bad_address, content_said, octets_of, Outcome, unwritten, putting, writing}
 use Rattle.writer.specs.Way.{label_of, plain_octets, acm_octets, iam_head, iam_octets, short_octets, outcome, iam_writing, short_writing}
 use Rattle.writer.proofs.Pairs.{length_pairs, at_most}
 use Rattle.writer.proofs.Tests.{fitting, fitting_iam, acm_fits, few}

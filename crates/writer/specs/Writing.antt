@@ -10,7 +10,6 @@ use Rattle.formats.specs.Format.{Name, DPC, OPC, CIC, HEADING, ACM, CATEGORY, IN
 use Rattle.formats.specs.Messages.{format_of, signals_behind, has_signals, listed}
 use Rattle.formats.specs.Octets.{above_fifteen, short}
 use Rattle.words.specs.Octets.{over}
-
 -- a count of 0 or above 15, a spare code, ST before the end
 unfoldable pub use Rattle.formats.specs.Octets.{bad_address}
 

@@ -1,7 +1,7 @@
 -- What the check leaves of the proof that `writer::write` meets its contract.
 -- Assumes nothing.
 use borrow.Author.Tests.{ne_eqb}
-use Rattle.std.proofs.Common.{◌≡◌, Option, Some, None, Err, rules, refl, sym, ap, ◌∙◌}
+use Rattle.std.proofs.Common.{◌≡◌, Some, None, Err, rules, sym, ◌∙◌}
 use Rattle.names.specs.declared.Refusal.TheVariants.{NoSuchHeading}
 use Rattle.writer.specs.Writing.{said_by}
 use Rattle.writer.proofs.Writes.{answer_of, buffer_of, no_group, no_circuit, no_heading, no_field, an_iam_lem, no_iam}

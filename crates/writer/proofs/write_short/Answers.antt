@@ -13,8 +13,8 @@ returns-then-out-fixed c = sym (short_tight _ _ _ _ c.requires.1 (rw c.requires.
 pub returns : goal.returns
 returns c =
     let put : c.if-m-eq-ACM.out ≡ over (short_octets c.args.label c.args.m.heading c.args.m.acm) c.args.out.now =
-      elim c.if-m-eq-ACM.branch [
-        then-m-eq-ACM w ↦ w.out-is ∙ w.put_acm.ensures ∙ put_if _ _ _ _ w.if-m-eq-ACM.true
-        | else-m-eq-ACM w ↦ w.out-is ∙ w.put_plain.ensures ∙ put_else _ _ _ _ w.if-m-eq-ACM.false
-      ] in
+    elim c.if-m-eq-ACM.branch [
+      | then-m-eq-ACM w ↦ w.out-is ∙ w.put_acm.ensures ∙ put_if _ _ _ _ w.if-m-eq-ACM.true
+      | else-m-eq-ACM w ↦ w.out-is ∙ w.put_plain.ensures ∙ put_else _ _ _ _ w.if-m-eq-ACM.false
+    ] in
     ap (outcome _) put ∙ rw c.requires.3 (sym (short_put _ _ _ _ c.requires.1 (rw c.requires.3 at c.if-out-fixed.false)))
