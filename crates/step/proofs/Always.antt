@@ -5,7 +5,9 @@ use Rattle.std.specs.Prelude.{Option, Some, None}
 use mathlib.Core.Path.{◌≡◌, refl, sym, subst}
 use mathlib.Core.Bool.{Bool, true, false, not, cond, ◌&&◌}
 use Prim.Native.Nat.{ℕ}
+use native.Mathlib.Omega.{arith}
 use lib.Dec.{T, eqb, eqb→eq}
+use Rattle.std.proofs.lemmas.Bool.Decides.{nat_tests}
 use Rattle.circuit.specs.declared.Record.{Record}
 use Rattle.circuit.specs.declared.Failure.TheVariants.{Sec, Cgc, Nnc, Adi, Cfl, Ssb, Unn, Los, Sst}
 use Rattle.circuit.specs.declared.Signal.TheVariants.{Iam, Acm, Anc, Ann, Cbk, Clf, Ran, Rlg, Blo, Bla, Ubl, Uba, Rsc, Fail}
@@ -98,26 +100,13 @@ frees_listed c r e v = alike_same _ _ (left (frees_right c r e) _ (right (refuse
 -- numbers that are no event are refused with 3, and on a record that is not valid with 12
 pub refuses_missing : (c : Bool) (r : Record) → (step_found c r None).refusal ≡ refusal_found r None
 unfolding step_found
-refuses_missing c r = go (valid r)
-  where
-    go : (b : Bool) → (cond b (refused 3 r) (refused 12 r)).refusal ≡ cond (not b) 12 3
-    go true = refl
-    go false = refl
-
--- a record that stays as it is frees nothing
-staying : (idle : Bool) → (not idle && idle) ≡ false
-staying true = refl
-staying false = refl
+refuses_missing c r = grind (arith, nat_tests)
 
 -- the same of an event that may be none
 pub frees_listed_found : (c : Bool) (r : Record) (f : Option Event) → T (valid r) → freed r.state (step_found c r f) ≡ frees_found c r.state f
 unfolding step_found
 frees_listed_found c r (Some e) v = frees_listed c r e v
-frees_listed_found c r None v = go (valid r)
-  where
-    go : (b : Bool) → freed r.state (cond b (refused 3 r) (refused 12 r)) ≡ false
-    go true = staying (eqb r.state 0)
-    go false = staying (eqb r.state 0)
+frees_listed_found c r None v = grind (arith, nat_tests)
 
 -- an accepted command or timer sends exactly one signal
 pub one_sent : (c : Bool) (r : Record) (e : Event) → T (valid r) → T (not (is_signal e)) → (step c r e).refusal ≡ 0 → sent (step c r e).sends ≡ 1

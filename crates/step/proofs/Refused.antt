@@ -6,6 +6,7 @@ use mathlib.Core.Bool.{Bool, true, false, not, cond}
 use mathlib.Core.List.{List, [], ◌∷◌, ◌++◌}
 use Prim.Native.Nat.{ℕ, ◌≤◌}
 use native.Mathlib.Omega.{arith}
+use Rattle.std.proofs.lemmas.Bool.Decides.{nat_tests}
 use lib.Dec.{T, eqb}
 use Rattle.circuit.specs.declared.Record.{Record}
 use Rattle.circuit.specs.declared.Row.{Row}
@@ -52,82 +53,39 @@ of_tables c r (RunsOut t) h = of_rows r.state (timer_table r t) 6 r h
 
 pub keeps : (c : Bool) (r : Record) (e : Event) → Keeps r (step c r e)
 unfolding step
-keeps c r e h = go (valid r) h
-  where
-    go : (b : Bool) → Keeps r (cond b (by_tables c r e) (refused 12 r))
-    go true k = of_tables c r e k
-    go false k = refl
+keeps c r e h = grind (arith, nat_tests, of_tables)
 
 pub keeps_found : (c : Bool) (r : Record) (f : Option Event) → Keeps r (step_found c r f)
 unfolding step_found
 keeps_found c r (Some e) h = keeps c r e h
-keeps_found c r None h = go (valid r) h
-  where
-    go : (b : Bool) → Keeps r (cond b (refused 3 r) (refused 12 r))
-    go true k = refl
-    go false k = refl
+keeps_found c r None h = grind (arith, nat_tests)
 
 -- which refusal is given, for every record and every event that may be none
 pub refuses_found : (c : Bool) (r : Record) (f : Option Event) → (step_found c r f).refusal ≡ refusal_found r f
 unfolding step_found step
-refuses_found c r (Some e) = go (valid r) (λ t. unfold step in refuses c r e t)
-  where
-    go : (b : Bool) → (T b → (cond b (by_tables c r e) (refused 12 r)).refusal ≡ refusal r e) → (cond b (by_tables c r e) (refused 12 r)).refusal ≡ cond (not b) 12 (refusal r e)
-    go true h = h tt
-    go false h = refl
+refuses_found c r (Some e) = let h : T (valid r) → (cond (valid r) (by_tables c r e) (refused 12 r)).refusal ≡ refusal r e = λ t. unfold step in refuses c r e t in grind (arith, nat_tests)
 refuses_found c r None = refuses_missing c r
 
 -- an event is accepted on a valid record only
 pub accepted_valid : (r : Record) (f : Option Event) → refusal_found r f ≡ 0 → T (valid r)
-accepted_valid r f = go (valid r) (first_rule (found_rules r f))
-  where
-    go : (b : Bool) (n : ℕ) → cond (not b) 12 n ≡ 0 → T b
-    go true n h = tt
-    go false n h = absurd (omega arith)
+accepted_valid r f h = grind (arith, nat_tests)
 
 -- the refusals of an event that may be none are 0 and 3 to 6
 pub low_refusal : (r : Record) (f : Option Event) → first_rule (found_rules r f) ≤ 6
 low_refusal r None = omega arith
 low_refusal r (Some (Arrives s)) = omega arith
-low_refusal r (Some (Ordered k)) = go (seizes_blocked r k) (allowed r k)
-  where
-    go : (a b : Bool) → cond a 4 (cond (not b) 5 0) ≤ 6
-    go true b = omega arith
-    go false true = omega arith
-    go false false = omega arith
-low_refusal r (Some (RunsOut t)) = go (runs r t)
-  where
-    go : (a : Bool) → cond (not a) 6 0 ≤ 6
-    go true = omega arith
-    go false = omega arith
+low_refusal r (Some (Ordered k)) = grind (arith, nat_tests)
+low_refusal r (Some (RunsOut t)) = grind (arith, nat_tests)
 
 pub at_least3 : (r : Record) (f : Option Event) → (first_rule (found_rules r f) ≡ 0 → ⊥) → 3 ≤ first_rule (found_rules r f)
 at_least3 r None n = omega arith
 at_least3 r (Some (Arrives s)) n = absurd (n refl)
-at_least3 r (Some (Ordered k)) n = go (seizes_blocked r k) (allowed r k) n
-  where
-    go : (a b : Bool) → (◌≡◌ {A = ℕ} (cond a 4 (cond (not b) 5 0)) 0 → ⊥) → 3 ≤ cond a 4 (cond (not b) 5 0)
-    go true b n = omega arith
-    go false true n = absurd (n refl)
-    go false false n = omega arith
-at_least3 r (Some (RunsOut t)) n = go (runs r t) n
-  where
-    go : (a : Bool) → (◌≡◌ {A = ℕ} (cond (not a) 6 0) 0 → ⊥) → 3 ≤ cond (not a) 6 0
-    go true n = absurd (n refl)
-    go false n = omega arith
+at_least3 r (Some (Ordered k)) n = grind (arith, nat_tests)
+at_least3 r (Some (RunsOut t)) n = grind (arith, nat_tests)
 
 -- a rule behind them is asked where none of them holds
 pub then_last : (r : Record) (f : Option Event) (k : ℕ) (b : Bool) → first_rule (found_rules r f ++ (refuse k b ∷ [])) ≡ cond (eqb (first_rule (found_rules r f)) 0) (cond b k 0) (first_rule (found_rules r f))
 then_last r None k b = refl
 then_last r (Some (Arrives s)) k b = refl
-then_last r (Some (Ordered c)) k b = go (seizes_blocked r c) (allowed r c)
-  where
-    go : (x y : Bool) → ◌≡◌ {A = ℕ} (cond x 4 (cond (not y) 5 (cond b k 0))) (cond (eqb (cond x 4 (cond (not y) 5 0)) 0) (cond b k 0) (cond x 4 (cond (not y) 5 0)))
-    go true y = refl
-    go false true = refl
-    go false false = refl
-then_last r (Some (RunsOut t)) k b = go (runs r t)
-  where
-    go : (x : Bool) → ◌≡◌ {A = ℕ} (cond (not x) 6 (cond b k 0)) (cond (eqb (cond (not x) 6 0) 0) (cond b k 0) (cond (not x) 6 0))
-    go true = refl
-    go false = refl
+then_last r (Some (Ordered c)) k b = grind (arith, nat_tests)
+then_last r (Some (RunsOut t)) k b = grind (arith, nat_tests)
