@@ -2,7 +2,7 @@
 -- Assumes nothing.
 use mathlib.Core.Path.{◌≡◌, refl, sym, ap, ◌∙◌}
 use mathlib.Core.List.{List, [], ◌∷◌, ◌++◌}
-use Prim.Native.Nat.{ℕ, suc, ◌+◌, ◌%◌, ◌<◌, ◌≤◌}
+use Prim.Native.Nat.{ℕ, suc, ◌+◌, ◌/◌, ◌%◌, ◌<◌, ◌≤◌}
 use native.Mathlib.Nat.{add_assoc, add-suc, suc-add, add-zero, zero-add}
 use native.Mathlib.Omega.{arith}
 use lib.Dec.{ltb}
@@ -14,11 +14,11 @@ use Rattle.std.proofs.lemmas.List.{take-append-drop, drop-append-le, take_more, 
 use Rattle.std.proofs.Common.{append_assoc}
 use Rattle.words.specs.Octets.{over}
 use borrow.Author.Tests.{lt-ltb, le-ltb}
-use Rattle.text.specs.Numbers.{hex_digit}
+use Rattle.text.specs.Numbers.{decimal, hex_digit}
 use Rattle.text.specs.Lines.{signals}
 use Rattle.text.specs.declared.Pen.{Pen}
 use Rattle.text.specs.Way.{Wrote}
-use Rattle.text.proofs.Numbers.{by_test}
+use Rattle.text.proofs.Numbers.{by_test, decimal_small, decimal_large}
 use Rattle.text.specs.Writing.{Printed, line_room, in_room}
 
 sets_more : (x y l : List ℕ) (i : ℕ) → sets (sets l i x) (i + length x) y ≡ sets l i (x ++ y)
@@ -44,6 +44,13 @@ said {p} {q} {x} {y} {m} w e = rw e w
 
 pub at_most : {p q : Pen} {x : List ℕ} {m n : ℕ} → Wrote p x m q → m ≤ n → Wrote p x n q
 at_most w h = tight w (omega (arith, w.within, h))
+
+-- a number's digits: its only one, or those of a tenth of it and its last
+pub sets_small : (l : List ℕ) (at n : ℕ) → n < 10 → set l at (48 + n) ≡ sets l at (decimal n)
+sets_small l at n h = rw (decimal_small n h) refl
+
+pub sets_large : (l : List ℕ) (at n : ℕ) → 10 ≤ n → set (sets l at (decimal (n / 10))) (at + length (decimal (n / 10))) (48 + n % 10) ≡ sets l at (decimal n)
+sets_large l at n h = rw (decimal_large n h) (sets_more (decimal (n / 10)) ((48 + n % 10) ∷ []) l at)
 
 -- a text that is copied to a place of a list
 pub copied : (at k : ℕ) (b y x : List ℕ) → y ≡ x → k ≡ length x → at + length x ≤ length b → put_mid at k b y ≡ sets b at x

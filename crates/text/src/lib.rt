@@ -4,6 +4,7 @@
 
 ghost use Rattle.std.specs.Prelude.{◌≡◌, [], ◌∷◌, ◌++◌, ◌+◌, ◌≤◌, ◌<◌, length, List, ℕ};
 ghost use Rattle.std.specs.Borrow.{MutBor};
+ghost use Rattle.std.proofs.lemmas.List.Edits.{sets};
 ghost use Rattle.text.specs.declared.Pen.{Pen};
 ghost use Rattle.text.specs.Numbers.{decimal, hex_digit, hex};
 ghost use Rattle.text.specs.Writing.{Printed, in_room};
@@ -57,17 +58,14 @@ impl Pen<'_> {
         self.at = end;
     }
 
-    // The digits of n: those of n / 10, and its last.
-    fn digits(&mut self, n: u64)
-        requires { self.old.at + length (decimal n) ≤ 132 }
+    fn decimal(&mut self, n: u64)
+        requires { self.old.at + 20 ≤ 132 }
         ensures { Wrote self.old (decimal n) 20 self.new }
     {
         if n < 10 {
             return self.put(b'0' + n as u8);
         }
-        let last = b'0' + (n % 10) as u8;
-        self.digits(n / 10);
-        self.put(last);
+        self.at = digits(self.room, self.at, n);
     }
 
     // A number and the octet behind it.
@@ -75,7 +73,7 @@ impl Pen<'_> {
         requires { self.old.at + 21 ≤ 132 }
         ensures { Wrote self.old (decimal n ++ (behind ∷ [])) 21 self.new }
     {
-        self.digits(n);
+        self.decimal(n);
         self.put(behind);
     }
 
@@ -141,6 +139,21 @@ impl Pen<'_> {
             self.put(hex_digit(signal % 16));
         }
     }
+}
+
+// The digits of n: those of n / 10, and its last. A pen that is lent to a call is kept in memory, which is slower: so the room goes alone.
+fn digits(room: &mut [u8; LINE], at: usize, n: u64) -> usize
+    requires { at + length (decimal n) ≤ 132 }
+    ensures place { result ≡ at + length (decimal n) }
+    ensures room { room.new ≡ sets room.old at (decimal n) }
+{
+    if n < 10 {
+        room[at] = b'0' + n as u8;
+        return at + 1;
+    }
+    let next = digits(room, at, n / 10);
+    room[next] = b'0' + (n % 10) as u8;
+    next + 1
 }
 
 fn hex_digit(d: u8) -> u8
