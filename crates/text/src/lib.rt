@@ -1,5 +1,6 @@
 // The lines of a replay and of a list of messages, written into lent room. Each public function writes its line at the room's start and
 // answers how many octets that took; where the room has fewer than `LINE` octets, it writes nothing and answers 0.
+// Digits are made by hand: a line by `write!` takes more than twice the instructions.
 #![tactic(auto)]
 
 ghost use Rattle.std.specs.Prelude.{◌≡◌, [], ◌∷◌, ◌++◌, ◌+◌, ◌≤◌, ◌<◌, length, List, ℕ};
@@ -19,7 +20,7 @@ pub const LINE: usize = 132;
 // The most address signals that a message can have.
 const MOST_SIGNALS: usize = 15;
 
-// What an event's line says. A heading of 0 stands for none.
+// What an event's line says. A heading of 0 stands for none. `event_line` has a line for any octets, so they are no enums.
 #[derive(Clone, Copy, Debug, PartialEq, Eq)]
 pub struct Line {
     pub ordinal: u64,
@@ -41,7 +42,7 @@ struct Pen<'a> {
 
 impl Pen<'_> {
     fn put(&mut self, octet: u8)
-        requires { self.old.at + 1 ≤ 132 }
+        requires { self.old.at + 1 ≤ LINE }
         ensures { Wrote self.old (octet ∷ []) 1 self.new }
     {
         self.room[self.at] = octet;
@@ -49,7 +50,7 @@ impl Pen<'_> {
     }
 
     fn word(&mut self, text: &[u8])
-        requires { self.old.at + length text.now ≤ 132 }
+        requires { self.old.at + length text.now ≤ LINE }
         ensures { Wrote self.old text.now (length text.now) self.new }
     {
         let end = self.at + text.len();
@@ -59,7 +60,7 @@ impl Pen<'_> {
     }
 
     fn decimal(&mut self, n: u64)
-        requires { self.old.at + 20 ≤ 132 }
+        requires { self.old.at + 20 ≤ LINE }
         ensures { Wrote self.old (decimal n) 20 self.new }
     {
         if n < 10 {
@@ -70,22 +71,31 @@ impl Pen<'_> {
 
     // A number and the octet behind it.
     fn number(&mut self, n: u64, behind: u8)
-        requires { self.old.at + 21 ≤ 132 }
+        requires { self.old.at + 21 ≤ LINE }
         ensures { Wrote self.old (decimal n ++ (behind ∷ [])) 21 self.new }
     {
         self.decimal(n);
         self.put(behind);
     }
 
+    // A word, a number and the line feed.
+    fn numbered(&mut self, text: &[u8], n: u64)
+        requires { self.old.at + (length text.now + 21) ≤ LINE }
+        ensures { Wrote self.old (text.now ++ (decimal n ++ (10 ∷ []))) (length text.now + 21) self.new }
+    {
+        self.word(text);
+        self.number(n, b'\n');
+    }
+
     fn field(&mut self, n: u64)
-        requires { self.old.at + 21 ≤ 132 }
+        requires { self.old.at + 21 ≤ LINE }
         ensures { Wrote self.old (field n) 21 self.new }
     {
         self.number(n, b' ');
     }
 
     fn hex(&mut self, octet: u8)
-        requires { self.old.at + 2 ≤ 132 }
+        requires { self.old.at + 2 ≤ LINE }
         ensures { Wrote self.old (hex octet) 2 self.new }
     {
         self.put(hex_digit(octet / 16));
@@ -93,7 +103,7 @@ impl Pen<'_> {
     }
 
     fn headings(&mut self, first: u8, second: u8)
-        requires { self.old.at + 5 ≤ 132 }
+        requires { self.old.at + 5 ≤ LINE }
         ensures { Wrote self.old (headings first second) 5 self.new }
     {
         if first == names::NO_SIGNAL {
@@ -108,7 +118,7 @@ impl Pen<'_> {
     }
 
     fn state_and_flags(&mut self, l: Line)
-        requires { self.old.at + 42 ≤ 132 }
+        requires { self.old.at + 42 ≤ LINE }
         ensures { Wrote self.old (state_and_flags l) 42 self.new }
     {
         if l.refusal == Refusal::NoSuchCircuit as u8 {
@@ -132,7 +142,7 @@ impl Pen<'_> {
 
     // The address signals, a hexadecimal digit each.
     fn signals(&mut self, address: &[u8])
-        requires { self.old.at + length address.now ≤ 132 }
+        requires { self.old.at + length address.now ≤ LINE }
         ensures { Wrote self.old (signals address.now) (length address.now) self.new }
     {
         for &signal in address {
@@ -141,9 +151,10 @@ impl Pen<'_> {
     }
 }
 
-// The digits of n: those of n / 10, and its last. A pen that is lent to a call is kept in memory, which is slower: so the room goes alone.
+// The digits of n: those of n / 10, and its last. Room and place travel apart: with a pen in their place, each octet of a line takes longer,
+// since a pen that is lent to a call is kept in memory.
 fn digits(room: &mut [u8; LINE], at: usize, n: u64) -> usize
-    requires { at + length (decimal n) ≤ 132 }
+    requires { at + length (decimal n) ≤ LINE }
     ensures place { result ≡ at + length (decimal n) }
     ensures room { room.new ≡ sets room.old at (decimal n) }
 {
@@ -156,6 +167,7 @@ fn digits(room: &mut [u8; LINE], at: usize, n: u64) -> usize
     next + 1
 }
 
+// By hand: `char::from_digit` answers an `Option` of a `char`.
 fn hex_digit(d: u8) -> u8
     requires { d < 16 }
     ensures { result ≡ hex_digit d }
@@ -163,10 +175,10 @@ fn hex_digit(d: u8) -> u8
     if d < 10 { b'0' + d } else { b'a' + (d - 10) }
 }
 
-// What is written from the room's start, where the room has a line's octets; else nothing is.
+// Lends `write` a pen at the room's start, and answers where it left the pen. Where the room has no line's octets, nothing is written.
 fn written<F: FnOnce(&mut Pen<'_>)>(room: &mut [u8], write: F) -> usize
     requires { (pen : MutBor Pen) → pen.now.at ≡ 0 → F.pre write pen }
-    ensures { (text : List ℕ) → Writes (λ before after. F.post write before tt after) text → Printed room.old (in_room room.old text) result room.new }
+    ensures { (text : List ℕ) → Writes (λ p q. F.post write p tt q) text → Printed room.old (in_room room.old text) result room.new }
 {
     let Some(room) = room.first_chunk_mut() else {
         return 0;
@@ -184,7 +196,7 @@ pub fn event_line(room: &mut [u8], l: Line) -> usize
         room,
         |pen|
             requires { pen.old.at ≡ 0 }
-            ensures { Wrote pen.old (line l) 132 pen.new }
+            ensures { Wrote pen.old (line l) LINE pen.new }
         {
             pen.field(l.ordinal);
             pen.field(u64::from(l.circuit));
@@ -205,14 +217,13 @@ pub fn group_line(room: &mut [u8], own: u32, far: u32, circuits: u16) -> usize
         room,
         |pen|
             requires { pen.old.at ≡ 0 }
-            ensures { Wrote pen.old (group_line own far circuits) 132 pen.new }
+            ensures { Wrote pen.old (group_line own far circuits) LINE pen.new }
         {
             pen.word(b"own ");
             pen.field(u64::from(own));
             pen.word(b"far ");
             pen.field(u64::from(far));
-            pen.word(b"circuits ");
-            pen.number(u64::from(circuits), b'\n');
+            pen.numbered(b"circuits ", u64::from(circuits));
         },
     )
 }
@@ -221,37 +232,19 @@ pub fn group_line(room: &mut [u8], own: u32, far: u32, circuits: u16) -> usize
 pub fn end_line(room: &mut [u8], events: u64) -> usize
     ensures { Printed room.old (in_room room.old (end_line events)) result room.new }
 {
-    written(
-        room,
-        |pen|
-            requires { pen.old.at ≡ 0 }
-            ensures { Wrote pen.old (end_line events) 132 pen.new }
-        {
-            pen.word(b"end ");
-            pen.number(events, b'\n');
-        },
-    )
+    written(room, |pen| pen.numbered(b"end ", events))
 }
 
 pub fn cut_line(room: &mut [u8], next: u64) -> usize
     ensures { Printed room.old (in_room room.old (cut_line next)) result room.new }
 {
-    written(
-        room,
-        |pen|
-            requires { pen.old.at ≡ 0 }
-            ensures { Wrote pen.old (cut_line next) 132 pen.new }
-        {
-            pen.word(b"cut ");
-            pen.number(next, b'\n');
-        },
-    )
+    written(room, |pen| pen.numbered(b"cut ", next))
 }
 
 pub fn bad_group_line(room: &mut [u8]) -> usize
     ensures { Printed room.old (in_room room.old bad_group_line) result room.new }
 {
-    written(room, |pen| { pen.word(b"bad group\n") })
+    written(room, |pen| pen.word(b"bad group\n"))
 }
 
 // The line of a message that was refused.
@@ -262,7 +255,7 @@ pub fn refused_line(room: &mut [u8], ordinal: u64, refusal: u8, place: u64) -> u
         room,
         |pen|
             requires { pen.old.at ≡ 0 }
-            ensures { Wrote pen.old (refused_line ordinal refusal place) 132 pen.new }
+            ensures { Wrote pen.old (refused_line ordinal refusal place) LINE pen.new }
         {
             pen.field(ordinal);
             pen.field(u64::from(refusal));
@@ -272,7 +265,8 @@ pub fn refused_line(room: &mut [u8], ordinal: u64, refusal: u8, place: u64) -> u
     )
 }
 
-// The line of a message that was read and has no fields of its own.
+// The line of a message that was read and has no fields of its own. Ordinal, circuit and heading are parameters of three public functions,
+// which keep them.
 pub fn plain_line(room: &mut [u8], ordinal: u64, circuit: u32, heading: u8) -> usize
     ensures { Printed room.old (in_room room.old (plain_line ordinal circuit heading)) result room.new }
 {
@@ -280,7 +274,7 @@ pub fn plain_line(room: &mut [u8], ordinal: u64, circuit: u32, heading: u8) -> u
         room,
         |pen|
             requires { pen.old.at ≡ 0 }
-            ensures { Wrote pen.old (plain_line ordinal circuit heading) 132 pen.new }
+            ensures { Wrote pen.old (plain_line ordinal circuit heading) LINE pen.new }
         {
             pen.read_start(ordinal, circuit, heading);
             pen.word(b"-\n");
@@ -296,7 +290,7 @@ pub fn acm_line(room: &mut [u8], ordinal: u64, circuit: u32, heading: u8, acm: u
         room,
         |pen|
             requires { pen.old.at ≡ 0 }
-            ensures { Wrote pen.old (acm_line ordinal circuit heading acm) 132 pen.new }
+            ensures { Wrote pen.old (acm_line ordinal circuit heading acm) LINE pen.new }
         {
             pen.read_start(ordinal, circuit, heading);
             pen.number(u64::from(acm), b'\n');
@@ -322,8 +316,8 @@ pub fn iam_line(
     written(
         room,
         |pen|
-            requires { (pen.old.at ≡ 0) × (length address.now ≤ 15) }
-            ensures { Wrote pen.old (iam_line ordinal circuit heading category indicators address.entry.now) 132 pen.new }
+            requires { (pen.old.at ≡ 0) × (length address.now ≤ MOST_SIGNALS) }
+            ensures { Wrote pen.old (iam_line ordinal circuit heading category indicators address.entry.now) LINE pen.new }
         {
             pen.read_start(ordinal, circuit, heading);
             pen.number(u64::from(category), b',');

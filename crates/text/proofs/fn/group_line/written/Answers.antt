@@ -9,4 +9,4 @@ pub returns : goal.returns
 unfolding group_line
 returns c =
     at_most (then c.word.ensures (then (rw c.from.ensures at c.field.ensures) (then c.word-2.ensures (then (rw c.from-2.ensures at c.field-2.ensures)
-    (then c.word-3.ensures (rw c.from-3.ensures at c.number.ensures)))))) (omega arith)
+    (rw c.from-3.ensures at c.numbered.ensures))))) (omega arith)
