@@ -2,7 +2,7 @@
 // writes in parts, so that the file may be of any length. Where reading or writing fails it says so on standard error, and prints no last line.
 #![tactic(auto)]
 
-ghost use Rattle.std.specs.Prelude.{◌≡◌, ◌+◌, ◌-◌, ◌≤◌, length};
+ghost use Rattle.std.specs.Prelude.{◌≡◌, ◌+◌, ◌≤◌, length};
 
 use arguments::{Source, Stop};
 use parts::{Fed, Stage};
