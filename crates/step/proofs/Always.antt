@@ -2,8 +2,8 @@
 -- from it.
 -- Assumes nothing.
 use Rattle.std.specs.Prelude.{Option, Some, None}
-use mathlib.Core.Path.{◌≡◌, refl, sym, subst}
-use mathlib.Core.Bool.{Bool, true, false, not, cond, ◌&&◌}
+use mathlib.Core.Path.{◌≡◌, sym, subst}
+use mathlib.Core.Bool.{Bool, true, false, not, ◌&&◌}
 use Prim.Native.Nat.{ℕ}
 use native.Mathlib.Omega.{arith}
 use lib.Dec.{T, eqb, eqb→eq}
@@ -16,7 +16,7 @@ use Rattle.circuit.specs.declared.Timer.TheVariants.{AddressWait, AnswerWait, In
 use Rattle.circuit.specs.declared.Event.{Event}
 use Rattle.circuit.specs.declared.Event.TheVariants.{Arrives, Ordered, RunsOut}
 use Rattle.circuit.specs.Records.{valid}
-use Rattle.circuit.specs.Rows.{first, refused}
+use Rattle.circuit.specs.Rows.{first}
 use Rattle.circuit.specs.Every.{implies}
 use Rattle.circuit.proofs.Every.{then, left, right, both, alike, alike_same, everywhere, at_valid}
 use Rattle.step.specs.Step.{step, step_found, is_signal, sent}

@@ -2,7 +2,7 @@
 -- Assumes nothing.
 use Rattle.std.specs.Prelude.{Option, Some, None}
 use mathlib.Core.Path.{◌≡◌, refl}
-use mathlib.Core.Bool.{Bool, true, false, not, cond}
+use mathlib.Core.Bool.{Bool, true, false, cond}
 use mathlib.Core.List.{List, [], ◌∷◌, ◌++◌}
 use Prim.Native.Nat.{ℕ, ◌≤◌}
 use native.Mathlib.Omega.{arith}
@@ -19,7 +19,7 @@ use Rattle.signals.specs.Table.{table}
 use Rattle.commands.specs.Tables.{command_table, command_refusal, timer_table}
 use Rattle.step.specs.Step.{by_tables, step, step_found}
 use Rattle.circuit.specs.Refusals.{refuse, first_rule}
-use Rattle.step.specs.Refusals.{allowed, runs, seizes_blocked, found_rules, refusal, refusal_found}
+use Rattle.step.specs.Refusals.{found_rules, refusal, refusal_found}
 use Rattle.step.proofs.Always.{refuses, refuses_missing}
 
 -- the answer is a refusal of this record, or it is accepted
