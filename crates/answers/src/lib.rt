@@ -16,7 +16,7 @@ pub struct Fields {
     pub second: u8,
 }
 
-// An answer by its fields.
+// An answer by its fields: all are numbers, since the answer is what `tup_step` gives a host in C, with 0 for no refusal and for no signal.
 pub fn answer(refusal: u8, ind: u8, held: Held, first: u8, second: u8) -> u64
     ensures { result ≡ word refusal ind held.state held.flags first second }
 {

@@ -9,6 +9,7 @@ ghost use Rattle.calls.specs.Way.{column_of};
 use circuit::Signal;
 
 // What a signal does to the call: the new state, the heading of what is sent, 0 for nothing, and the indication.
+// Numbers and no Option, since each goes as it is into its octet of the answer, where a host in C reads 0 for no signal.
 #[derive(Clone, Copy, Debug, PartialEq, Eq)]
 pub struct Call {
     pub state: u8,
@@ -18,7 +19,7 @@ pub struct Call {
 
 // A column a signal, in the order in which docs/RULES.md lists the headings; a line an entry: its signal, its state, and whether our end controls the
 // circuit (c) or not (n). The first digit is the new state; the second is the indication where nothing is sent, and a is CLF with 10, b CLF with 6,
-// c RLG with 0, d RLG with 5, e RLG with 6.
+// c RLG with 0, d RLG with 5, e RLG with 6. An entry is no struct, since two digits on a line can be read beside the paper.
 static CALLS: [[u8; 26]; 14] = [
     [
         0x61, // IAM in 0 c

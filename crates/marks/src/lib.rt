@@ -18,6 +18,7 @@ pub struct Flags {
 }
 
 // What is done to the flags, the heading of what is sent for it, 0 for none, and whether the signal goes no further than the marks.
+// Numbers and no Option, since each goes as it is into its octet of the answer, where a host in C reads 0 for no signal.
 #[derive(Clone, Copy, Debug, PartialEq, Eq)]
 pub struct Marked {
     pub flags: u8,
