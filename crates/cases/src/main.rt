@@ -38,7 +38,7 @@ fn line_right(line: &[u8]) -> Option<bool> {
 }
 
 // The cases run, and those that were answered otherwise.
-#[derive(Clone, Copy, Default)]
+#[derive(Clone, Copy, Debug, PartialEq, Eq, Default)]
 struct Tally {
     cases: u64,
     wrong: u64,

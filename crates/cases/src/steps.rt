@@ -3,7 +3,7 @@ use super::tables;
 use super::tables::{LONGEST, Record, octet};
 
 // A table as a case has it: the counter of releases, a circuit's record from the place `at` on, and one octet everywhere beside these.
-#[derive(Clone, Copy)]
+#[derive(Clone, Copy, Debug, PartialEq, Eq)]
 struct Laid {
     counter: u64,
     at: usize,

@@ -62,6 +62,7 @@ impl Asked {
     }
 }
 
+// What the arguments ask for. They end where there is none; the number is there since a proved loop has an end.
 pub(crate) fn read<E: Print>(env: &impl Env, told: &Complaints<'_, E>) -> Result<Asked, Stop> {
     let mut asked = Asked::default();
     for i in 1..usize::MAX {

@@ -259,7 +259,7 @@ fn run<P: Program, E: Print>(
     }
 }
 
-// Does a program's work, and says what went wrong.
+// Does a program's work, and says what went wrong. Any number may be given for what the program does: all but LISTING replay.
 pub fn start(rt: &HostRuntime, what: u8, name: &[u8], help: &[u8]) {
     let told = Complaints {
         err: &rt.stderr(),
