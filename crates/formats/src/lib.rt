@@ -64,8 +64,7 @@ fn group_of(h0: u32) -> u32
     ensures { result ≡ group_of h0 }
 {
     match h0 {
-        1 => 0x002,
-        4 => 0x002,
+        1 | 4 => 0x002,
         5 => 0x3fe,
         6 => 0x03e,
         7 => 0x0be,
