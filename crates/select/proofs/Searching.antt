@@ -1,12 +1,13 @@
 -- The search for a circuit, as the program makes it: what it holds on the way, and that it comes to the definition's answer.
 -- Assumes nothing.
-use mathlib.Core.Path.{◌≡◌, refl, sym, ap, ◌∙◌, subst}
-use mathlib.Core.Bool.{Bool, true, false, not, cond, ◌&&◌, ◌||◌}
+use mathlib.Core.Path.{◌≡◌, refl, sym, ◌∙◌, subst}
+use mathlib.Core.Bool.{Bool, true, false, not, cond, ◌&&◌}
 use mathlib.Core.List.{List}
-use Prim.Native.Nat.{ℕ, suc, ◌+◌, ◌%◌, ◌<◌, ◌≤◌}
+use Prim.Native.Nat.{ℕ, zero, suc, ◌+◌, ◌-◌, ◌%◌, ◌<◌, ◌≤◌}
+use Rattle.std.specs.Prelude.{Option, Some, None}
 use native.Mathlib.Omega.{arith}
-use lib.Dec.{T, eqb, leb, ltb, eqb→eq, leb→le, ltb→lt, lt→ltb, not_T}
-use borrow.Author.Tests.{ltb-true, not-true, not-false, eqb-true, eqb-false, eq-eqb, ne_eqb, leb-false, le-leb}
+use lib.Dec.{T, eqb, ltb, eqb→eq, ltb→lt, lt→ltb, not_T}
+use borrow.Author.Tests.{ltb-true, ltb-false, eqb-true, eqb-false, eq-eqb, ne_eqb}
 use lib.ListN.{length}
 use Rattle.circuit.specs.Groups.{bad_group, by_parity, controls}
 use Rattle.circuit.proofs.Every.{left, right, both}
@@ -14,8 +15,10 @@ use Rattle.layout.specs.declared.Stored.{Stored}
 use Rattle.layout.specs.Layout.{records_in, state_at, flags_at, rank_at, allowed, allowed_at, stored, stored_at}
 use Rattle.layout.proofs.Laws.{stored_in}
 use Rattle.select.specs.First.{first, some, best}
-use Rattle.select.specs.Way.{Best, bad_from, concluded, sought, searched, Led}
-use Rattle.select.proofs.First.{first_holds, first_at, first_same, some_at, none_of, none_at, the_best, starts, takes, stays, with_last}
+use Rattle.std.specs.List.{list_all, range_with_len}
+use Rattle.select.specs.declared.Leader.{Leader}
+use Rattle.select.specs.Way.{Best, allowed_there, released_later, concluded, sought, searched, Led}
+use Rattle.select.proofs.First.{first_holds, first_at, some_at, none_of, none_at, the_best, starts, takes, stays, with_last}
 use Rattle.select.proofs.Orders.{before, Ahead.by_rank, ahead_is, order, lower_first, first_unused}
 use Rattle.select.specs.Selection.{refused, taken, free, qualifies, ours, theirs, earlier, later, stops, looked, choice, bad, choosing, select_in}
 
@@ -73,61 +76,57 @@ module _ (table : List ℕ) (i n : ℕ) {s : Stored} (all : n ≤ records_in (le
   pub rank_is : s.rank ≡ rank_at table i
   rank_is = rw read
 
--- no bad record from one up to another
-pub record GoodFrom (table : List ℕ) (from i : ℕ) : Type 0 where
-  pub begun : from ≤ i
-  pub good : (j : ℕ) → from ≤ j → j < i → T (bad table j) → ⊥
+-- records from one on that are all legal as the program reads them, or not all
+and_true : (a b : Bool) → (a && b) ≡ true → (a ≡ true) × (b ≡ true)
+and_true true b e = (refl, e)
+and_true false b e = absurd (subst T (sym e) tt)
 
-module _ (table : List ℕ) (from : ℕ) where
-  pub good_start : GoodFrom table from from
-  good_start = record { begun = omega arith; good = λ j p q t. omega arith }
+module _ (table : List ℕ) {m : ℕ} (all : m ≤ records_in (length table)) where
+  there : (i : ℕ) → i < m → allowed_there table i ≡ allowed_at table i
+  there i h = rw (stored_in table i (omega arith)) refl
 
-  pub good_next : {i : ℕ} → GoodFrom table from i → allowed_at table i ≡ true → GoodFrom table from (i + 1)
-  good_next {i} g ok =
-      let l : from ≤ i = g.begun in
-      record { begun = omega arith; good = λ j p q. with_last i (λ j. from ≤ j → T (bad table j) → ⊥) (λ j h p. g.good j p h) (λ p t. rw ok at t) j (omega arith) p }
+  pub all_legal : (from k : ℕ) → from + k ≤ m → list_all (allowed_there table) (range_with_len from k) ≡ true → (j : ℕ) → from ≤ j → j < from + k → T (bad table j) → ⊥
+  all_legal from zero room e j p q t = omega arith
+  all_legal from (suc k) room e j p q t = go (eqb j from) refl (λ l. all_legal (from + 1) k (omega arith) both_are.1 j l (omega arith) t)
+    where
+      both_are : (allowed_there table from ≡ true) × (list_all (allowed_there table) (range_with_len (from + 1) k) ≡ true)
+      both_are = and_true (allowed_there table from) _ e
 
-  pub good_not : {i n : ℕ} → GoodFrom table from i → i < n → allowed_at table i ≡ false → false ≡ not (some n (bad_from table from))
-  good_not {i} {n} g h e = rw (some_at n (bad_from table from) i h (both (leb from i) _ (rw (le-leb from i g.begun) tt) (rw e tt)))
+      go : (b : Bool) → eqb j from ≡ b → (from + 1 ≤ j → ⊥) → ⊥
+      go true d behind = let here : T (not (allowed_at table from)) = subst (λ (i : ℕ). T (bad table i)) (eqb-true j from d) t in rw (sym (there from (omega arith)) ∙ both_are.0) at here
+      go false d behind = let other : j ≡ from → ⊥ = eqb-false j from d in behind (omega arith)
 
-  pub good_end : {i n : ℕ} → GoodFrom table from i → n ≤ i → true ≡ not (some n (bad_from table from))
-  good_end {i} {n} g h =
-      rw (none_of n (bad_from table from) (λ j l t. g.good j (leb→le from j (left (leb from j) _ t)) (omega arith) (right (leb from j) _ t)))
+  pub one_not : (from k : ℕ) → from + k ≤ m → list_all (allowed_there table) (range_with_len from k) ≡ false → (j : ℕ) × (j < m) × (allowed_at table j ≡ false)
+  one_not from zero room e = absurd (subst T e tt)
+  one_not from (suc k) room e = go (allowed_there table from) refl e (one_not (from + 1) k (omega arith))
+    where
+      go : (b : Bool) → allowed_there table from ≡ b → (b && list_all (allowed_there table) (range_with_len (from + 1) k)) ≡ false
+          → (list_all (allowed_there table) (range_with_len (from + 1) k) ≡ false → (j : ℕ) × (j < m) × (allowed_at table j ≡ false))
+          → (j : ℕ) × (j < m) × (allowed_at table j ≡ false)
+      go true d e behind = behind e
+      go false d e behind = (from, omega arith, sym (there from (omega arith)) ∙ d)
 
--- while none of ours is found, after i of n records: circuit c with rank r is the best of theirs, n stands for none
-pub record Held (table : List ℕ) (among : ℕ → Bool) (n i c r : ℕ) : Type 0 where
-  pub none : c ≡ n → (j : ℕ) → j < i → T (among j) → ⊥
-  pub best : (c ≡ n → ⊥) → Best among (later table) i c
-  pub rank : (c ≡ n → ⊥) → r ≡ rank_at table c
+-- while none of ours is found, after i records: the best of theirs, if there is one
+abbrev pub Held : (table : List ℕ) (among : ℕ → Bool) (i : ℕ) → Option Leader → Type 0
+Held table among i None = (j : ℕ) → j < i → T (among j) → ⊥
+Held table among i (Some l) = Best among (later table) i l.cic.0 × (l.rank ≡ rank_at table l.cic.0)
 
-module _ (table : List ℕ) (among : ℕ → Bool) (n : ℕ) {i c r : ℕ} (h : Held table among n i c r) where
+module _ (table : List ℕ) (among : ℕ → Bool) (i : ℕ) where
   -- a record that is not among them
-  held_past : (T (among i) → ⊥) → Held table among n (suc i) c r
-  held_past past = record { none = λ e. with_last i (λ j. T (among j) → ⊥) (h.none e) past; best = λ d. stays (order false table) (h.best d) (λ t. absurd (past t)); rank = h.rank }
+  held_past : (l : Option Leader) → Held table among i l → (T (among i) → ⊥) → Held table among (suc i) l
+  held_past None h past = with_last i (λ j. T (among j) → ⊥) h past
+  held_past (Some l) h past = (stays (order false table) h.0 (λ t. absurd (past t)), h.1)
 
   -- one that is
-  module _ (below : i < n) (t : T (among i)) (rank : ℕ) (is : rank ≡ rank_at table i) where
-    held_new : (eqb c n || ltb r rank) ≡ true → Held table among n (suc i) i rank
-    held_new e = record { none = λ q. absurd (omega arith); best = λ d. go (eqb c n) refl e; rank = λ d. is }
-      where
-        go : (b : Bool) → eqb c n ≡ b → (b || ltb r rank) ≡ true → Best among (later table) (suc i) i
-        go true q e = starts (order false table) (h.none (eqb-true c n q)) t
-        go false q e =
-            let some : c ≡ n → ⊥ = eqb-false c n q in
-            takes (order false table) (h.best some) t (ahead_is (before false) (rank_at table i) (rank_at table c) i c (by_rank (rw (← is, ← h.rank some, e) tt)))
+  module _ (t : T (among i)) (rank : ℕ) (is : rank ≡ rank_at table i) where
+    held_new : (l : Option Leader) → Held table among i l → released_later l rank ≡ true → Held table among (suc i) (Some (record { cic = record { 0 = i }; rank = rank }))
+    held_new None h e = (starts (order false table) h t, is)
+    held_new (Some l) h e =
+        (takes (order false table) h.0 t (ahead_is (before false) (rank_at table i) (rank_at table l.cic.0) i l.cic.0 (by_rank (rw (← is, ← h.1, e) tt))), is)
 
-    held_stays : (eqb c n || ltb r rank) ≡ false → Held table among n (suc i) c r
-    held_stays e = go (eqb c n) refl e
-      where
-        go : (b : Bool) → eqb c n ≡ b → (b || ltb r rank) ≡ false → Held table among n (suc i) c r
-        go true q e = absurd (subst T e tt)
-        go false q e =
-            let some : c ≡ n → ⊥ = eqb-false c n q in
-            record {
-              none = λ d. absurd (some d);
-              best = λ d. stays (order false table) (h.best some) (λ s. lower_first false table c i (h.best some).below (λ t. rw (← is, ← h.rank some, e) at t));
-              rank = h.rank;
-            }
+    held_stays : (l : Option Leader) → Held table among i l → released_later l rank ≡ false → Held table among (suc i) l
+    held_stays None h e = absurd (subst T e tt)
+    held_stays (Some l) h e = (stays (order false table) h.0 (λ s. lower_first false table l.cic.0 i h.0.below (λ t. rw (← is, ← h.1, e) at t)), h.1)
 
 module _ (mine : ℕ → Bool) (table : List ℕ) {i o p : ℕ} (l : Led mine table i o p) where
   past : (T (ours mine table i) → ⊥) → Led mine table (suc i) o p
@@ -201,31 +200,22 @@ module _ (first : ℕ) (table : List ℕ) {n i o p : ℕ} (w : Ours first table 
         record { parity = same_parity i first w.parity; within = w.within; led = every_second first table w.parity (led_stays (by_parity first) table w.led is (eq-eqb _ _ w.parity) rank r used l) }
 
 -- what the search holds then: none of ours qualifies, the best of theirs, and no bad record yet
-pub record Scanned (mine : ℕ → Bool) (table : List ℕ) (n i t q : ℕ) : Type 0 where
+pub record Scanned (mine : ℕ → Bool) (table : List ℕ) (i : ℕ) (l : Option Leader) : Type 0 where
   pub none : (j : ℕ) → j < i → T (ours mine table j) → ⊥
-  pub theirs : Held table (theirs mine table) n i t q
+  pub theirs : Held table (theirs mine table) i l
   pub good : (j : ℕ) → j < i → T (bad table j) → ⊥
-
-is_false : (b : Bool) → (T b → ⊥) → b ≡ false
-is_false true n = absurd (n tt)
-is_false false n = refl
 
 next : (n : ℕ) → n + 1 ≡ suc n
 next n = omega arith
 
 module _ (mine : ℕ → Bool) (table : List ℕ) where
-  pub scan_start : (n : ℕ) → Scanned mine table n 0 n 0
-  scan_start n =
-      record {
-        none = λ j h t. omega arith;
-        theirs = record { none = λ e j h t. omega arith; best = λ d. absurd (d refl); rank = λ d. absurd (d refl) };
-        good = λ j h t. omega arith;
-      }
+  pub scan_start : Scanned mine table 0 None
+  scan_start = record { none = λ j h t. omega arith; theirs = λ j h t. omega arith; good = λ j h t. omega arith }
 
-  pub no_stop : {n i t q : ℕ} → Scanned mine table n i t q → (j : ℕ) → j < i → T (stops mine table j) → ⊥
+  pub no_stop : {i : ℕ} {l : Option Leader} → Scanned mine table i l → (j : ℕ) → j < i → T (stops mine table j) → ⊥
   no_stop s j h t = s.none j h (left (ours mine table j) _ t)
 
-  module _ {n i t q : ℕ} (s : Scanned mine table n i t q) (below : i < n) (ok : allowed_at table i ≡ true) where
+  module _ {i : ℕ} {l : Option Leader} (s : Scanned mine table i l) (ok : allowed_at table i ≡ true) where
     good : (j : ℕ) → j < suc i → T (bad table j) → ⊥
     good = with_last i (λ j. T (bad table j) → ⊥) s.good (λ x. rw ok at x)
 
@@ -233,17 +223,17 @@ module _ (mine : ℕ → Bool) (table : List ℕ) where
     none past = with_last i (λ j. T (ours mine table j) → ⊥) s.none past
 
     -- one that does not qualify
-    pub scan_busy : free (state_at table i) (flags_at table i) ≡ false → Scanned mine table n (i + 1) t q
-    scan_busy e = rw (next i) (record { none = none (λ x. rw e at x); theirs = held_past table (theirs mine table) n s.theirs (λ x. rw e at x); good = good })
+    pub scan_busy : free (state_at table i) (flags_at table i) ≡ false → Scanned mine table (i + 1) l
+    scan_busy e = rw (next i) (record { none = none (λ x. rw e at x); theirs = held_past table (theirs mine table) i l s.theirs (λ x. rw e at x); good = good })
 
     module _ (is : free (state_at table i) (flags_at table i) ≡ true) (rank : ℕ) (r : rank ≡ rank_at table i) where
       -- one of theirs
       module _ (e : mine i ≡ false) where
-        pub scan_theirs : (eqb t n || ltb q rank) ≡ true → Scanned mine table n (i + 1) i rank
-        scan_theirs b = rw (next i) (record { none = none (λ x. rw (is, e) at x); theirs = held_new table (theirs mine table) n s.theirs below (rw (is, e) tt) rank r b; good = good })
+        pub scan_theirs : released_later l rank ≡ true → Scanned mine table (i + 1) (Some (record { cic = record { 0 = i }; rank = rank }))
+        scan_theirs b = rw (next i) (record { none = none (λ x. rw (is, e) at x); theirs = held_new table (theirs mine table) i (rw (is, e) tt) rank r l s.theirs b; good = good })
 
-        pub scan_theirs_stay : (eqb t n || ltb q rank) ≡ false → Scanned mine table n (i + 1) t q
-        scan_theirs_stay b = rw (next i) (record { none = none (λ x. rw (is, e) at x); theirs = held_stays table (theirs mine table) n s.theirs below (rw (is, e) tt) rank r b; good = good })
+        pub scan_theirs_stay : released_later l rank ≡ false → Scanned mine table (i + 1) l
+        scan_theirs_stay b = rw (next i) (record { none = none (λ x. rw (is, e) at x); theirs = held_stays table (theirs mine table) i (rw (is, e) tt) rank r l s.theirs b; good = good })
 
       -- the first of ours
       pub scan_first : mine i ≡ true → (rank ≡ 0 → ⊥) → Led mine table (suc i) i rank
@@ -272,34 +262,25 @@ module _ (mine : ℕ → Bool) (table : List ℕ) where
   scan_bad i n h e = rw (some_at n (bad table) i h (rw e tt))
 
   -- the whole table, where none of ours was found
-  pub scan_end : {n t q : ℕ} → Scanned mine table n n t q → concluded t n ≡ searched mine table n
-  scan_end {n} {t} s = rw (none_of n (bad table) s.good) (go (eqb t n) refl)
-    where
-      go : (b : Bool) → eqb t n ≡ b → cond b (refused 14) (taken t n) ≡ sought mine table n
-      go false d = sym (choice_theirs n t s.none (s.theirs.best (eqb-false t n d)))
-      go true d = sym (choice_none n s.none (s.theirs.none (eqb-true t n d)))
+  pub scan_end : {n : ℕ} (l : Option Leader) → Scanned mine table n l → concluded l n ≡ searched mine table n
+  scan_end {n} None s = rw (none_of n (bad table) s.good) (sym (choice_none n s.none s.theirs))
+  scan_end {n} (Some l) s = rw (none_of n (bad table) s.good) (sym (choice_theirs n l.cic.0 s.none s.theirs.0))
 
   -- where no record is bad
   pub all_good : (n : ℕ) → some n (bad table) ≡ false → sought mine table n ≡ searched mine table n
   all_good n e = rw e
 
   -- one of ours is found: the records behind it are judged
-  module _ {n i t q : ℕ} (s : Scanned mine table n i t q) (ok : allowed_at table i ≡ true) where
-    behind : some n (bad_from table (i + 1)) ≡ some n (bad table)
-    behind = ap (λ (k : ℕ). ltb k n) (first_same n (bad_from table (i + 1)) (bad table) (λ j l. go j (leb (i + 1) j) refl))
+  module _ {n i : ℕ} {l : Option Leader} (s : Scanned mine table i l) (all : n ≤ records_in (length table)) (h : i < n) (ok : allowed_at table i ≡ true) where
+    pub none_behind : list_all (allowed_there table) (range_with_len (i + 1) (n - (i + 1))) ≡ true → some n (bad table) ≡ false
+    none_behind e = none_of n (bad table) (λ j p t. go j p t (ltb j (i + 1)) refl)
       where
-        go : (j : ℕ) (b : Bool) → leb (i + 1) j ≡ b → (b && bad table j) ≡ bad table j
-        go j true e = refl
-        go j false e =
-            let l : j < i + 1 = leb-false _ _ e in
-            sym (is_false (bad table j) (with_last i (λ j. T (bad table j) → ⊥) s.good (λ x. rw ok at x) j (omega arith)))
+        go : (j : ℕ) → j < n → T (bad table j) → (b : Bool) → ltb j (i + 1) ≡ b → ⊥
+        go j p t true d = let l : j < i + 1 = ltb-true _ _ d in good s ok j (omega arith) t
+        go j p t false d = let l : i + 1 ≤ j = ltb-false _ _ d in all_legal table all (i + 1) (n - (i + 1)) (omega arith) e j l (omega arith) t
 
-    module _ {b : Bool} (e : b ≡ not (some n (bad_from table (i + 1)))) where
-      pub none_behind : b ≡ true → some n (bad table) ≡ false
-      none_behind d = sym behind ∙ not-true (some n (bad_from table (i + 1))) (sym e ∙ d)
-
-      pub bad_behind : b ≡ false → refused 12 ≡ searched mine table n
-      bad_behind d = rw (sym behind ∙ not-false (some n (bad_from table (i + 1))) (sym e ∙ d))
+    pub bad_behind : list_all (allowed_there table) (range_with_len (i + 1) (n - (i + 1))) ≡ false → refused 12 ≡ searched mine table n
+    bad_behind e = let j = one_not table all (i + 1) (n - (i + 1)) (omega arith) e in scan_bad j.0 n j.1 j.2
 
   -- one of ours with rank 0, where none before it stops the search
   module _ {i : ℕ} (on : (j : ℕ) → j < i → T (stops mine table j) → ⊥) (n : ℕ) (h : i < n) (is : free (state_at table i) (flags_at table i) ≡ true) (c : mine i ≡ true) (unused : rank_at table i ≡ 0) where

@@ -1,7 +1,8 @@
 -- The program's way of searching for a circuit: what it holds as it goes. The contracts of private functions cite it; no promise leans on it.
 -- Assumes nothing.
-use Rattle.std.specs.Prelude.{Bool, cond, ◌&&◌, ℕ, ◌<◌, T, eqb, leb, ◌≡◌, List}
-use Rattle.layout.specs.Layout.{rank_at}
+use Rattle.std.specs.Prelude.{Bool, true, cond, ℕ, ◌<◌, T, ltb, ◌≡◌, List, Option, Some, None}
+use Rattle.layout.specs.Layout.{rank_at, allowed, stored_at}
+use Rattle.select.specs.declared.Leader.{Leader}
 use Rattle.select.specs.First.{some, best}
 use Rattle.select.specs.Selection.{Selected, refused, taken, ours, theirs, earlier, later, stops, looked, bad}
 
@@ -11,13 +12,19 @@ pub record Best (among : ℕ → Bool) (goes : ℕ → ℕ → Bool) (n b : ℕ)
   pub is : T (among b)
   pub goes_first : (j : ℕ) → j < n → T (among j) → T (goes b j)
 
--- a bad record from one on
-abbrev pub bad_from : List ℕ → (from : ℕ) → ℕ → Bool
-bad_from table from i = leb from i && bad table i
+-- a record as the program reads it is legal
+abbrev pub allowed_there : List ℕ → ℕ → Bool
+allowed_there table i = allowed (stored_at table i).held.state (stored_at table i).held.flags
+
+-- a rank is above that of the best of theirs, or is the first of theirs
+abbrev pub released_later : Option Leader → (rank : ℕ) → Bool
+released_later None rank = true
+released_later (Some best) rank = ltb best.rank rank
 
 -- where it has looked at n records and found none of ours
-abbrev pub concluded : (theirs n : ℕ) → Selected
-concluded theirs n = cond (eqb theirs n) (refused 14) (taken theirs n)
+abbrev pub concluded : Option Leader → (n : ℕ) → Selected
+concluded None n = refused 14
+concluded (Some best) n = taken best.cic.0 n
 
 -- where no record is bad: the best of ours, else the best of theirs, else 14
 unfoldable pub sought : (mine : ℕ → Bool) → List ℕ → (n : ℕ) → Selected

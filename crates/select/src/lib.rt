@@ -1,12 +1,12 @@
 // Which circuit to seize (docs/RULES.md, "Choice of a circuit"; Q.724, 2.4, method 2). Nothing is seized, and nothing lent is changed.
 #![tactic(auto)]
 
-ghost use Rattle.std.specs.Prelude.{◌≡◌, not, ◌%◌, ◌<◌, ◌≤◌, length};
+ghost use Rattle.std.specs.Prelude.{◌≡◌, ◌-◌, ◌%◌, ◌<◌, ◌≤◌, length};
+ghost use Rattle.std.specs.List.{list_all, range_with_len};
 ghost use Rattle.layout.specs.Layout.{records_in};
 ghost use Rattle.circuit.specs.Groups.{by_parity};
-ghost use Rattle.select.specs.First.{some};
 ghost use Rattle.select.specs.Selection.{choosing_of, told, free, select_in};
-ghost use Rattle.select.specs.Way.{bad_from, concluded, searched, Led, sought};
+ghost use Rattle.select.specs.Way.{allowed_there, released_later, concluded, searched, Led, sought};
 
 use circuit::{Cic, Codes};
 use layout::Stored;
@@ -19,6 +19,13 @@ pub struct Choice {
     pub looked: u32,
 }
 
+// The circuit that goes before all of its kind so far, with its rank.
+#[derive(Clone, Copy)]
+struct Leader {
+    cic: Cic,
+    rank: u64,
+}
+
 // An idle circuit without far block.
 fn free(at: Stored) -> bool
     ensures { result ≡ free at.held.state at.held.flags }
@@ -28,25 +35,17 @@ fn free(at: Stored) -> bool
 
 // Whether all records from one on are allowed.
 fn allowed_from(table: &[u8], from: u32, records: u32) -> bool
-    requires { records ≤ records_in (length table.now) }
-    ensures { result ≡ not (some records (bad_from table.now from)) }
+    ensures { result ≡ list_all (allowed_there table.now) (range_with_len from (records - from)) }
 {
-    for i in from..records {
-        if !layout::allowed(layout::stored_at(table, Cic(i)).held) {
-            return false;
-        }
-    }
-    true
+    (from..records).all(|i| layout::allowed(layout::stored_at(table, Cic(i)).held))
 }
 
-// Those of ours from one on, where circuit `best` with its rank is the best of ours before it. Every second circuit is ours.
-fn ours_from(table: &[u8], from: u32, best: u32, rank: u64, records: u32) -> Choice
-    requires records_bound { (records ≤ records_in (length table.now)) × (records ≤ 4096) × (best < records) }
-    requires led { Led (by_parity (from % 2)) table.now from best rank }
+// Those of ours from one on, where `best` leads those before it. Every second circuit is ours.
+fn ours_from(table: &[u8], from: u32, mut best: Leader, records: u32) -> Choice
+    requires records_bound { (records ≤ records_in (length table.now)) × (records ≤ 4096) × (best.cic.0 < records) }
+    requires led { Led (by_parity (from % 2)) table.now from best.cic.0 best.rank }
     ensures { choosing_of result ≡ sought (by_parity (from % 2)) table.now records }
 {
-    let mut chosen = best;
-    let mut lowest = rank;
     for i in (from..records).step_by(2) {
         let at = layout::stored_at(table, Cic(i));
         if !free(at) {
@@ -58,29 +57,35 @@ fn ours_from(table: &[u8], from: u32, best: u32, rank: u64, records: u32) -> Cho
                 looked: i + 1,
             };
         }
-        if at.rank < lowest {
-            chosen = i;
-            lowest = at.rank;
+        if at.rank < best.rank {
+            best = Leader {
+                cic: Cic(i),
+                rank: at.rank,
+            };
         }
     }
     Choice {
-        cic: Cic(chosen),
+        cic: best.cic,
         looked: records,
     }
 }
 
-// None of ours qualified; `theirs` is their best, or `records` if there is none.
-fn conclude(theirs: u32, records: u32) -> Result<Choice, Refusal>
+// Whether one of theirs with this rank was released after the best of theirs so far.
+fn released_later(theirs: Option<Leader>, rank: u64) -> bool
+    ensures { result ≡ released_later theirs rank }
+{
+    theirs.is_none_or(|best| best.rank < rank)
+}
+
+// None of ours qualified; `theirs` leads theirs, if there is one.
+fn conclude(theirs: Option<Leader>, records: u32) -> Result<Choice, Refusal>
     ensures { told result ≡ concluded theirs records }
 {
-    if theirs == records {
-        Err(Refusal::NoCircuit)
-    } else {
-        Ok(Choice {
-            cic: Cic(theirs),
-            looked: records,
-        })
-    }
+    let best = theirs.ok_or(Refusal::NoCircuit)?;
+    Ok(Choice {
+        cic: best.cic,
+        looked: records,
+    })
 }
 
 // Judges each record and looks at it, where ours are the circuits of one parity. Once one of ours is found, the other records are judged, and only
@@ -89,8 +94,7 @@ fn search(first: u32, table: &[u8], records: u32) -> Result<Choice, Refusal>
     requires { (records ≤ records_in (length table.now)) × (records ≤ 4096) }
     ensures { told result ≡ searched (by_parity first) table.now records }
 {
-    let mut theirs = records;
-    let mut highest = 0;
+    let mut theirs = None;
     for i in 0..records {
         let at = layout::stored_at(table, Cic(i));
         if !layout::allowed(at.held) {
@@ -99,6 +103,10 @@ fn search(first: u32, table: &[u8], records: u32) -> Result<Choice, Refusal>
         if !free(at) {
             continue;
         }
+        let here = Leader {
+            cic: Cic(i),
+            rank: at.rank,
+        };
         if i % 2 == first {
             if !allowed_from(table, i + 1, records) {
                 return Err(Refusal::BadRecord);
@@ -109,11 +117,10 @@ fn search(first: u32, table: &[u8], records: u32) -> Result<Choice, Refusal>
                     looked: i + 1,
                 });
             }
-            return Ok(ours_from(table, i + 2, i, at.rank, records));
+            return Ok(ours_from(table, i + 2, here, records));
         }
-        if theirs == records || highest < at.rank {
-            theirs = i;
-            highest = at.rank;
+        if released_later(theirs, at.rank) {
+            theirs = Some(here);
         }
     }
     conclude(theirs, records)

@@ -5,4 +5,4 @@ use Rattle.select.proofs.Searching.{Scanned}
 use Rattle.select.proofs.search.Given as goal
 
 abbrev pub invariant-loop-i : goal.invariant-loop-i
-invariant-loop-i l = Scanned (by_parity l.first) l.table l.records l.i l.theirs l.highest
+invariant-loop-i l = Scanned (by_parity l.first) l.table l.i l.theirs
