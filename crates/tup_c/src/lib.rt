@@ -1,4 +1,5 @@
 // The static library that a host in C links: each entry calls the function of its name in `tup` and promises the same.
+// Parameters are single numbers, as include/tup.h declares them, and clauses are those of `tup` word for word: the C interface needs both.
 #![tactic(auto)]
 
 ghost use Rattle.std.specs.Prelude.{◌≡◌};

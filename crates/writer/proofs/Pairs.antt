@@ -1,15 +1,16 @@
 -- Address signals two to an octet: the octet that two of them make, and what the loop that stores them has stored.
 -- Assumes nothing.
-use mathlib.Core.Path.{◌≡◌, refl, sym, ap, ◌∙◌, subst}
-use mathlib.Core.Bool.{Bool, true, false, ◌||◌}
+use mathlib.Core.Path.{◌≡◌, refl, ap, ◌∙◌}
+use mathlib.Core.Bool.{false}
 use mathlib.Core.List.{List, [], ◌∷◌}
 use Prim.Native.Nat.{ℕ, zero, suc, ◌+◌, ◌-◌, ◌*◌, ◌/◌, ◌%◌, ◌<◌, ◌≤◌}
 use native.Mathlib.Omega.{arith}
 use borrow.Author.Tests.{ltb-false}
-use lib.Dec.{T, ltb}
+use lib.Dec.{ltb}
 use lib.ListN.{length, get_or, set}
 use lib.Seq.{paste}
 use Rattle.std.proofs.lemmas.List.Edits.{paste_more}
+use Rattle.circuit.proofs.Groups.{none}
 use Rattle.formats.specs.Octets.{above_fifteen}
 use Rattle.formats.specs.Way.{pairs}
 use Rattle.formats.specs.Messages.{half}
@@ -57,13 +58,5 @@ module _ (cs buffer : List ℕ) (room : 9 + half (length cs) ≤ length buffer) 
 -- none of the signals is above 15
 pub at_most : (s : List ℕ) (i : ℕ) → above_fifteen s ≡ false → i < length s → get_or s i 0 ≤ 15
 at_most [] i e h = absurd (omega arith)
-at_most (code ∷ rest) i e h = go (ltb 15 code) refl i h (λ k q r. at_most rest k q r)
-  where
-    after : (b : Bool) → ltb 15 code ≡ b → (b || above_fifteen rest) ≡ false
-    after b p = sym (ap (λ (b : Bool). b || above_fifteen rest) p) ∙ e
-
-    go : (b : Bool) → ltb 15 code ≡ b → (i : ℕ) → i < suc (length rest) → ((k : ℕ) → above_fifteen rest ≡ false → k < length rest → get_or rest k 0 ≤ 15)
-        → get_or (code ∷ rest) i 0 ≤ 15
-    go true p i h more = absurd (subst T (after true p) tt)
-    go false p zero h more = ltb-false 15 code p
-    go false p (suc i) h more = more i (after false p) (omega arith)
+at_most (code ∷ rest) zero e h = ltb-false 15 code (none false false (ltb 15 code) (above_fifteen rest) e).2
+at_most (code ∷ rest) (suc i) e h = at_most rest i (none false false (ltb 15 code) (above_fifteen rest) e).3 (omega arith)

@@ -1,11 +1,11 @@
--- Tests one after the other: the first that holds decides.
+-- The tests of the fields and of the address, and what holds where none of them does.
 -- Assumes nothing.
-use mathlib.Core.Path.{◌≡◌, refl, subst}
-use mathlib.Core.Bool.{Bool, true, false, cond, ◌||◌}
+use mathlib.Core.Path.{◌≡◌, subst}
+use mathlib.Core.Bool.{Bool, false, cond}
 use Prim.Native.Nat.{ℕ, ◌≤◌}
 use mathlib.Core.List.{List}
 use borrow.Author.Tests.{ltb-false, eqb-false}
-use lib.Dec.{T, eqb, ltb}
+use lib.Dec.{eqb, ltb}
 use lib.ListN.{length}
 use Rattle.circuit.proofs.Groups.{none}
 use Rattle.formats.specs.Octets.{bad_codes, above_fifteen}
@@ -59,13 +59,9 @@ acm_fits h acm e l = subst (λ (h : ℕ). acm ≤ most (format_of h).fields ACM)
 -- an address that is in order
 pub in_order : (address : List ℕ) → bad_address address ≡ false → (length address ≡ 0 → ⊥) × (length address ≤ 15) × (bad_codes address ≡ false)
 unfolding bad_address
-in_order address e = go (eqb (length address) 0) refl (ltb 15 (length address)) refl e
-  where
-    go : (x : Bool) → eqb (length address) 0 ≡ x → (y : Bool) → ltb 15 (length address) ≡ y → (x || y || bad_codes address) ≡ false
-        → (length address ≡ 0 → ⊥) × (length address ≤ 15) × (bad_codes address ≡ false)
-    go true z y p q = absurd (subst T q tt)
-    go false z true p q = absurd (subst T q tt)
-    go false z false p q = (eqb-false (length address) 0 z, ltb-false 15 (length address) p, q)
+in_order address e =
+    let each = none false (eqb (length address) 0) (ltb 15 (length address)) (bad_codes address) e in
+    (eqb-false (length address) 0 each.1, ltb-false 15 (length address) each.2, each.3)
 
 pub few : (address : List ℕ) → bad_address address ≡ false → length address ≤ 15
 few address e = (in_order address e).1

@@ -85,6 +85,7 @@ fn put_iam(label: u64, category: u8, word: u16, out: &mut [u8])
 }
 
 // The address signals of an IAM, from octet 9 on.
+#[tactic(auto, using(crate::proofs::Pairs::at_most))]
 fn put_pairs(address: &[u8], out: &mut [u8])
     requires { (above_fifteen address.now ≡ false) × (9 + half (length address.now) ≤ length out.old) }
     ensures { out.new ≡ paste out.old 9 (pairs address.now) (half (length address.now)) }
@@ -108,6 +109,7 @@ fn label_to(codes: Codes, cic: Cic) -> u64
 }
 
 // An IAM whose fields are in order.
+#[tactic(auto, using(crate::proofs::Tests::few))]
 fn write_iam(label: u64, m: Draft, out: &mut [u8]) -> Result<u8, Refusal>
     requires { (m.category ≤ 63) × (m.indicators ≤ 2047) × (above_fifteen m.address.now ≡ false) }
     ensures { outcome (told result) out.new ≡ iam_writing label m.entry.category m.entry.indicators m.entry.address.now out.old }

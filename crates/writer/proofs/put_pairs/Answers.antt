@@ -1,19 +1,8 @@
 -- What the check leaves of the proof that `writer::put_pairs` meets its contract.
 -- Assumes nothing.
-use Rattle.std.proofs.Common.{◌+◌, ◌*◌, arith}
-use Rattle.writer.proofs.Pairs.{pairs_more, pairs_odd, pairs_even, at_most}
+use Rattle.std.proofs.Common.{arith}
+use Rattle.writer.proofs.Pairs.{pairs_more, pairs_odd, pairs_even}
 use Rattle.writer.proofs.put_pairs.Goals as goal
-
-pub overflow_mul-out-in-loop-j-2 : goal.overflow_mul-out-in-loop-j-2
-overflow_mul-out-in-loop-j-2 c = omega (arith, at_most c.args.address.now (2 * c.loop-j.j + 1) c.requires.0 (omega arith))
-
-pub overflow_add-out-in-loop-j : goal.overflow_add-out-in-loop-j
-overflow_add-out-in-loop-j c =
-    omega (
-      arith,
-      at_most c.args.address.now (2 * c.loop-j.j + 1) c.requires.0 (omega arith),
-      at_most c.args.address.now (2 * c.loop-j.j) c.requires.0 (omega arith),
-    )
 
 pub loop-j-preserved : goal.loop-j-preserved
 loop-j-preserved c = pairs_more c.args.address.now c.args.out.now c.requires.1 _ _ c.loop-j.invariant c.loop-j-test.true

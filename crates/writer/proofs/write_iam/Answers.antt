@@ -3,7 +3,6 @@
 use Rattle.std.proofs.Common.{◌≡◌, length, arith, sym}
 use Rattle.formats.specs.Messages.{half}
 use Rattle.writer.proofs.Writes.{iam_spoilt, iam_short, iam_tight, iam_put_lem}
-use Rattle.writer.proofs.Tests.{few}
 use Rattle.writer.proofs.write_iam.Goals as goal
 
 pub returns-then-bad_address : goal.returns-then-bad_address
@@ -20,18 +19,6 @@ returns-then-out-need c =
     let enough = sym c.if-short.ensures in
     let is : c.div_ceil-need.result ≡ half (length c.args.m.address.now) = omega (arith, c.div_ceil-need.ensures) in
     sym (iam_tight _ _ _ _ _ ordered enough (rw is at c.if-out-need.true))
-
-pub overflow_mul-word : goal.overflow_mul-word
-overflow_mul-word c = omega (arith, few _ (sym c.if-bad_address.ensures))
-
-pub overflow_add-word : goal.overflow_add-word
-overflow_add-word c = omega (arith, few _ (sym c.if-bad_address.ensures))
-
-pub overflow_cast-word : goal.overflow_cast-word
-overflow_cast-word c = omega (arith, c.from.ensures, few _ (sym c.if-bad_address.ensures))
-
-pub overflow_cast-result : goal.overflow_cast-result
-overflow_cast-result c = omega (arith, few _ (sym c.if-bad_address.ensures))
 
 pub returns : goal.returns
 returns c =
