@@ -8,7 +8,7 @@ use Rattle.formats.specs.Format.{INDICATORS, COUNT}
 use Rattle.formats.specs.Messages.{format_of}
 use Rattle.formats.specs.Octets.{bad_code, first_bad, short}
 use Rattle.formats.proofs.Signals.{none_before, first_fits}
-use Rattle.reader.specs.declared.Fields.{Fields}
+use Rattle.reader.specs.Told.{Told}
 use Rattle.reader.specs.Faults.{Fault, fault, rules_of, place_of}
 use Rattle.reader.specs.Places.{field_by, signals_by}
 use Rattle.reader.specs.Reading.{fields_of}
@@ -88,12 +88,12 @@ messages_listed = the_case
 pub message_ahead : (r : Running) (s : List ℕ) → ahead_in r s
     ≡ cond (eqb (length s) 0) AtEnd
     (cond (ltb (length s) (1 + get_or s 0 0)) Partial
-    (Takes (1 + get_or s 0 0) (message_line r.next (fields_of r.own.0 r.far.0 r.circuits (take (get_or s 0 0) (drop 1 s)))) no_state))
+    (Takes (1 + get_or s 0 0) (message_line r.next (fields_of r.group.codes.own.0 r.group.codes.far.0 r.group.circuits (take (get_or s 0 0) (drop 1 s)))) no_state))
 unfolding ahead_in
 message_ahead r s = refl
 
 -- a message that was refused has its refusal and its place in its line, any other its circuit, heading and fields
-pub message_lines : (ordinal : ℕ) (f : Fields) → message_line ordinal f
+pub message_lines : (ordinal : ℕ) (f : Told) → message_line ordinal f
     ≡ cond (eqb f.refusal 0)
     (cond (eqb f.heading 0x11) (iam_line ordinal f.circuit.0 f.heading f.category f.indicators (take f.count f.address))
     (cond (eqb f.heading 0x14) (acm_line ordinal f.circuit.0 f.heading f.acm) (plain_line ordinal f.circuit.0 f.heading)))
