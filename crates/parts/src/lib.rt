@@ -80,8 +80,11 @@ impl Running {
     pub fn onward(self) -> Running
         ensures { result ≡ cond (eqb self.next largest) self (onward self) }
     {
+        if self.next == LAST {
+            return self;
+        }
         Running {
-            next: self.next.saturating_add(1),
+            next: self.next + 1,
             ..self
         }
     }
