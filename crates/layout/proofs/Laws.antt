@@ -82,6 +82,15 @@ allowed_below s f h = rw (le-leb s 12 (omega arith), lt-ltb s 12 h) (go (leb f 1
     go true = once_more (flags_allowed (record_of s f)) (only_far (record_of s f))
     go false = refl
 
+pub allowed_bare : (s f : ℕ) → f ≡ 0 → leb s 12 ≡ allowed s f
+unfolding record_of
+allowed_bare s f e = rw e (go (leb s 12) (ltb s 12))
+  where
+    go : (a b : Bool) → a ≡ (a && (b || true))
+    go true true = refl
+    go true false = refl
+    go false b = refl
+
 pub allowed_in_reset : (s f : ℕ) → s ≡ 12 → legal_in_reset f ≡ allowed s f
 unfolding record_of
 allowed_in_reset s f e = rw e (go (leb f 15) refl)

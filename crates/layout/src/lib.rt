@@ -90,12 +90,15 @@ pub fn stored_at(table: &[u8], cic: Cic) -> Stored
     }
 }
 
-// Whether what is held is a legal record (docs/RULES.md, "Records"): refusal 12 is for the others.
-#[tactic(auto, using(crate::proofs::Laws::allowed_below, crate::proofs::Laws::allowed_in_reset, crate::proofs::Laws::allowed_above))]
+// Whether what is held is a legal record (docs/RULES.md, "Records"): refusal 12 is for the others. Whole tables are judged by this, and most circuits
+// have no flag, so that is asked first.
+#[tactic(auto, using(crate::proofs::Laws::allowed_bare, crate::proofs::Laws::allowed_below, crate::proofs::Laws::allowed_in_reset, crate::proofs::Laws::allowed_above))]
 pub fn allowed(held: Held) -> bool
     ensures { result ≡ allowed held.state held.flags }
 {
-    if held.state < names::AWAITING_RESET {
+    if held.flags == marks::NONE {
+        held.state <= names::AWAITING_RESET
+    } else if held.state < names::AWAITING_RESET {
         marks::legal(held.flags)
     } else {
         held.state == names::AWAITING_RESET && marks::legal_in_reset(held.flags)
