@@ -1,6 +1,6 @@
 -- The program's way of searching for a circuit: what it holds as it goes. The contracts of private functions cite it; no promise leans on it.
 -- Assumes nothing.
-use Rattle.std.specs.Prelude.{Bool, true, cond, ℕ, ◌<◌, T, ltb, ◌≡◌, List, Option, Some, None}
+use Rattle.std.specs.Prelude.{Bool, true, cond, ℕ, ◌<◌, T, eqb, ltb, ◌≡◌, List, Option, Some, None}
 use Rattle.layout.specs.Layout.{rank_at, allowed, stored_at}
 use Rattle.select.specs.declared.Leader.{Leader}
 use Rattle.select.specs.First.{some, best}
@@ -15,6 +15,10 @@ pub record Best (among : ℕ → Bool) (goes : ℕ → ℕ → Bool) (n b : ℕ)
 -- a record as the program reads it is legal
 abbrev pub allowed_there : List ℕ → ℕ → Bool
 allowed_there table i = allowed (stored_at table i).held.state (stored_at table i).held.flags
+
+-- the best of theirs in a table of n records, where the number n stands for none
+abbrev pub found : Leader → (n : ℕ) → Option Leader
+found theirs n = cond (eqb theirs.cic.0 n) None (Some theirs)
 
 -- a rank is above that of the best of theirs, or is the first of theirs
 abbrev pub released_later : Option Leader → (rank : ℕ) → Bool

@@ -6,7 +6,7 @@ ghost use Rattle.std.specs.List.{list_all, range_with_len};
 ghost use Rattle.layout.specs.Layout.{records_in};
 ghost use Rattle.circuit.specs.Groups.{by_parity};
 ghost use Rattle.select.specs.Selection.{choosing_of, told, free, select_in};
-ghost use Rattle.select.specs.Way.{allowed_there, released_later, concluded, searched, Led, sought};
+ghost use Rattle.select.specs.Way.{allowed_there, found, released_later, concluded, searched, Led, sought};
 
 use circuit::{Cic, Codes};
 use layout::Stored;
@@ -70,20 +70,23 @@ fn ours_from(table: &[u8], from: u32, mut best: Leader, records: u32) -> Choice
     }
 }
 
-// Whether one of theirs with this rank was released after the best of theirs so far.
-fn released_later(theirs: Option<Leader>, rank: u64) -> bool
-    ensures { result ≡ released_later theirs rank }
+// Whether one of theirs with this rank was released after the best of theirs so far. No circuit has the number `records`: it stands for none of theirs,
+// since an Option of a leader makes the loop over a table slower.
+fn released_later(theirs: Leader, records: u32, rank: u64) -> bool
+    ensures { result ≡ released_later (found theirs records) rank }
 {
-    theirs.is_none_or(|best| best.rank < rank)
+    theirs.cic.0 == records || theirs.rank < rank
 }
 
 // None of ours qualified; `theirs` leads theirs, if there is one.
-fn conclude(theirs: Option<Leader>, records: u32) -> Result<Choice, Refusal>
-    ensures { told result ≡ concluded theirs records }
+fn conclude(theirs: Leader, records: u32) -> Result<Choice, Refusal>
+    ensures { told result ≡ concluded (found theirs records) records }
 {
-    let best = theirs.ok_or(Refusal::NoCircuit)?;
+    if theirs.cic.0 == records {
+        return Err(Refusal::NoCircuit);
+    }
     Ok(Choice {
-        cic: best.cic,
+        cic: theirs.cic,
         looked: records,
     })
 }
@@ -94,7 +97,10 @@ fn search(first: u32, table: &[u8], records: u32) -> Result<Choice, Refusal>
     requires { (records ≤ records_in (length table.now)) × (records ≤ 4096) }
     ensures { told result ≡ searched (by_parity first) table.now records }
 {
-    let mut theirs = None;
+    let mut theirs = Leader {
+        cic: Cic(records),
+        rank: 0,
+    };
     for i in 0..records {
         let at = layout::stored_at(table, Cic(i));
         if !layout::allowed(at.held) {
@@ -119,8 +125,8 @@ fn search(first: u32, table: &[u8], records: u32) -> Result<Choice, Refusal>
             }
             return Ok(ours_from(table, i + 2, here, records));
         }
-        if released_later(theirs, at.rank) {
-            theirs = Some(here);
+        if released_later(theirs, records, at.rank) {
+            theirs = here;
         }
     }
     conclude(theirs, records)

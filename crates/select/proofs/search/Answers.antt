@@ -1,10 +1,13 @@
 -- What the check leaves of the proof that `select::search` meets its contract.
 -- Assumes nothing.
-use Rattle.std.proofs.Common.{◌≡◌, sym, ◌∙◌, arith}
+use Rattle.std.proofs.Common.{refl, ◌≡◌, sym, ◌∙◌, arith}
 use borrow.Author.Tests.{eq-eqb, ne_eqb}
-use Rattle.select.proofs.Searching.{scan_theirs, scan_theirs_stay, scan_first, none_behind, bad_behind, judged, free_at, rank_is, no_stop, scan_busy, scan_bad, scan_end, stop_here, every_second, same_parity, all_good}
+use Rattle.select.proofs.Searching.{scan_theirs, scan_theirs_stay, scan_first, none_behind, bad_behind, judged, free_at, rank_is, no_stop, scan_busy, scan_bad, scan_end, scan_start, stop_here, every_second, same_parity, all_good}
 use Rattle.select.proofs.search.Goals.{then-released_later, else-released_later}
 use Rattle.select.proofs.search.Goals as goal
+
+pub loop-i-init : goal.loop-i-init
+loop-i-init c = rw (eq-eqb c.args.records c.args.records refl) (scan_start _ _)
 
 pub returns-then-not-allowed : goal.returns-then-not-allowed
 returns-then-not-allowed c =
@@ -47,8 +50,9 @@ loop-i-preserved c =
     let ok = judged _ _ _ all h e c.if-not-allowed.ensures in
     let is = free_at _ _ _ all h e c.if-not-free.ensures in
     let con = ne_eqb _ _ c.if-i-first.false in
+    let below : c.loop-i.i ≡ c.args.records → ⊥ = λ d. omega (arith, d, h) in
     elim c.if-released_later.branch [
-      | then-released_later w ↦ rw w.theirs-is (scan_theirs _ _ s ok is _ (rank_is _ _ _ all h e) con (sym w.if-released_later.ensures))
+      | then-released_later w ↦ rw (w.theirs-is, ne_eqb c.loop-i.i c.args.records below) (scan_theirs _ _ s ok is _ (rank_is _ _ _ all h e) con (sym w.if-released_later.ensures))
       | else-released_later w ↦ rw w.theirs-is (scan_theirs_stay _ _ s ok is _ (rank_is _ _ _ all h e) con (sym w.if-released_later.ensures))
     ]
 
