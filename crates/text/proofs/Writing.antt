@@ -6,14 +6,14 @@ use Prim.Native.Nat.{ℕ, suc, ◌+◌, ◌/◌, ◌%◌, ◌<◌, ◌≤◌}
 use native.Mathlib.Nat.{add_assoc, add-suc, suc-add, add-zero, zero-add}
 use native.Mathlib.Omega.{arith}
 use lib.Dec.{ltb}
-use lib.ListN.{length, get_or, set, take, drop, length-append, length-map}
+use lib.ListN.{length, get_or, set, take, drop, length-append}
 use lib.Seq.{sets, sets-eq, take-length, length-take-le}
 use borrow.Rule.Slice.PartMut.{put_mid}
 use Rattle.std.proofs.lemmas.Slice.{put_mid-paste}
 use Rattle.std.proofs.lemmas.List.{take-append-drop, drop-append-le, take_more, map-append}
 use Rattle.std.proofs.Common.{append_assoc}
 use Rattle.words.specs.Octets.{over}
-use borrow.Author.Tests.{lt-ltb, le-ltb}
+use borrow.Author.Tests.{le-ltb}
 use Rattle.text.specs.Numbers.{decimal, hex_digit}
 use Rattle.text.specs.Lines.{signals}
 use Rattle.text.specs.declared.Pen.{Pen}
@@ -34,16 +34,9 @@ then {p} {q} {r} {x} {y} u v = record {
   same = v.same ∙ u.same;
 }
 
--- another bound
-pub tight : {p q : Pen} {x : List ℕ} {m n : ℕ} → Wrote p x m q → length x ≤ n → Wrote p x n q
-tight w h = record { place = w.place; within = h; room = w.room; same = w.same }
-
--- the same text, in other words
-pub said : {p q : Pen} {x y : List ℕ} {m : ℕ} → Wrote p x m q → y ≡ x → Wrote p y m q
-said {p} {q} {x} {y} {m} w e = rw e w
-
+-- a looser bound
 pub at_most : {p q : Pen} {x : List ℕ} {m n : ℕ} → Wrote p x m q → m ≤ n → Wrote p x n q
-at_most w h = tight w (omega (arith, w.within, h))
+at_most w h = record { place = w.place; within = omega (arith, w.within, h); room = w.room; same = w.same }
 
 -- a number's digits: its only one, or those of a tenth of it and its last
 pub sets_small : (l : List ℕ) (at n : ℕ) → n < 10 → set l at (48 + n) ≡ sets l at (decimal n)
@@ -72,18 +65,10 @@ whole p q b a x w s h e f =
       room = f ∙ ap (λ (l : List ℕ). l ++ drop 132 b) left ∙ at_start x b (take 132 b) (drop 132 b) within (take-append-drop 132 b);
     })
 
-pub nothing : (b x : List ℕ) → length b < line_room → Printed b (in_room b x) 0 b
-nothing b x h = rw (lt-ltb (length b) line_room h) (record { count = refl; room = refl })
-
 pub no_text : (b : List ℕ) → Printed b (in_room b []) 0 b
 no_text b = by_test (ltb (length b) line_room) (λ e. rw e (record { count = refl; room = refl })) (λ e. rw e (record { count = refl; room = refl }))
 
--- an address as text has a digit for each signal
-pub signals_length : (address : List ℕ) → length (signals address) ≡ length address
-unfolding signals
-signals_length address = length-map address (λ d. hex_digit (d % 16))
-
--- and one more is a digit more
+-- one more address signal is a digit more
 pub signals_more : (address : List ℕ) (i : ℕ) → i < length address → signals (take (i + 1) address) ≡ signals (take i address) ++ (hex_digit (get_or address i 0 % 16) ∷ [])
 unfolding signals
 signals_more address i h = rw (take_more address i 0 h, map-append) refl

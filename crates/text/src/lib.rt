@@ -172,7 +172,7 @@ fn hex_digit(d: u8) -> u8
     requires { d < 16 }
     ensures { result ≡ hex_digit d }
 {
-    if d < 10 { b'0' + d } else { b'a' + (d - 10) }
+    if d < 10 { b'0' + d } else { b'a' - 10 + d }
 }
 
 // Lends `write` a pen at the room's start, and answers where it left the pen. Where the room has no line's octets, nothing is written.
