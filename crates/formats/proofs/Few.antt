@@ -3,14 +3,32 @@
 use mathlib.Core.Path.{◌≡◌, refl, sym, ap, ◌∙◌}
 use mathlib.Core.Bool.{Bool, true, false, cond, not, ◌&&◌, ◌||◌, and-false}
 use mathlib.Core.List.{List, [], ◌∷◌}
-use Prim.Native.Nat.{ℕ, suc, ◌<◌, ◌≤◌, min}
+use Prim.Native.Nat.{ℕ, suc, ◌+◌, ◌<◌, ◌≤◌, min}
+use native.Mathlib.Numerals.{add-one}
 use native.Mathlib.Omega.{arith}
 use borrow.Author.Tests.{ltb-true, ltb-false, lt-ltb, le-ltb, eq-eqb, ne_eqb}
 use lib.Dec.{eqb, ltb}
-use lib.ListN.{length, get_or, take}
+use lib.ListN.{length, get_or, drop, take}
+use lib.Seq.{drop-cons}
 use Rattle.std.proofs.lemmas.List.{length-take}
 use Rattle.std.specs.List.{filter}
 use Rattle.formats.specs.Octets.{international, besides_st, to_operator, short}
+
+-- A LOOP OVER THE SIGNALS
+
+module _ (s : List ℕ) (n i : ℕ) (p : besides_st s ≡ n + besides_st (drop i s)) where
+  abbrev one : Bool → ℕ
+  one st = cond st (besides_st (drop (i + 1) s)) (suc (besides_st (drop (i + 1) s)))
+
+  next : i < length s → besides_st (drop i s) ≡ one (eqb (get_or s i 0) 15)
+  next h = rw (drop-cons s i 0 h, add-one i)
+
+  -- it passes ST, or counts one more
+  pub passes_st : i < length s → get_or s i 0 ≡ 15 → besides_st s ≡ n + besides_st (drop (i + 1) s)
+  passes_st h e = p ∙ ap (λ (k : ℕ). n + k) (next h ∙ ap one (eq-eqb _ _ e))
+
+  pub counts_one : i < length s → (get_or s i 0 ≡ 15 → ⊥) → besides_st s ≡ n + 1 + besides_st (drop (i + 1) s)
+  counts_one h e = let q : besides_st (drop i s) ≡ suc (besides_st (drop (i + 1) s)) = next h ∙ ap one (ne_eqb _ _ e) in omega arith
 
 -- FEWER THAN FOUR
 
@@ -39,9 +57,17 @@ four s =
 
 -- THE FIRST SIGNAL
 
+pub nobody : (s : List ℕ) → length s ≡ 0 → false ≡ to_operator s
+nobody [] e = refl
+nobody (code ∷ rest) e = absurd (omega arith)
+
 pub by_eleven : (s : List ℕ) → (length s ≡ 0 → ⊥) → get_or s 0 0 ≡ 11 → true ≡ to_operator s
 by_eleven [] some e = absurd (some refl)
 by_eleven (code ∷ rest) some e = sym (ap (λ (b : Bool). b || eqb code 12) (eq-eqb _ _ e))
+
+pub by_twelve : (s : List ℕ) → (length s ≡ 0 → ⊥) → (get_or s 0 0 ≡ 11 → ⊥) → eqb (get_or s 0 0) 12 ≡ to_operator s
+by_twelve [] some e = absurd (some refl)
+by_twelve (code ∷ rest) some e = sym (ap (λ (b : Bool). b || eqb code 12) (ne_eqb _ _ e))
 
 -- WHETHER A NUMBER IS SHORT
 

@@ -41,6 +41,9 @@ module _ (h : ℕ) where
   pub a_length : (n : ℕ) → length_if (listed h) ≡ Some n → (listed h ≡ true) × (n ≡ fixed_length h)
   a_length n e = let p = cond_some (listed h) _ n e in (p.0, sym p.1)
 
+pub acm_length : (h n : ℕ) → h ≡ 0x14 → n ≡ cond (listed h) (fixed_length h) 0 → n ≡ 7
+acm_length h n e is = is ∙ ap (λ (k : ℕ). cond (listed k) (fixed_length k) 0) e
+
 -- a heading that is listed is an octet
 failure_octet : (f : Failure) → failure_heading f < 256
 failure_octet Sec = lit< tt

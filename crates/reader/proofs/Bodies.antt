@@ -17,7 +17,7 @@ use Rattle.formats.specs.Messages.{iam_format, among_own, own_formats, headed, f
 use Rattle.formats.specs.Octets.{bad_codes, first_bad, short}
 use Rattle.formats.specs.Way.{halves}
 use Rattle.formats.proofs.ByHeading.{an_acm, neither, signals_of_iam, iam_octets, signal_octets, fixed_lengths}
-use Rattle.formats.proofs.Places.{dpc_there, opc_there, heading_there, acm_there, category_there, indicators_there, count_there, behind_iam, signals_there}
+use Rattle.formats.proofs.Places.{dpc_there, opc_there, cic_there, heading_there, acm_there, category_there, indicators_there, count_there, behind_iam, signals_there}
 use Rattle.formats.proofs.Lengths.{length_if, missing, no_length, a_length}
 use Rattle.std.proofs.lemmas.Option.{cond_some}
 use Rattle.std.specs.Prelude.{Option, Some, None}
@@ -342,3 +342,6 @@ module _ (label : ℕ) (xs : List ℕ) (octets : (i : ℕ) → get_or xs i 0 < 2
 
   pub stray_at : (own : ℕ) → cond (eqb (label % 2 ^ 14) own) 1 0 ≡ stray_octet own xs
   stray_at own = rw (dpc_there xs octets, ← is)
+
+  pub the_circuit : label / 2 ^ 28 ≡ cic_in xs
+  the_circuit = ap (λ (l : ℕ). l / 2 ^ 28) is ∙ sym (cic_there xs octets)

@@ -3,14 +3,16 @@
 use mathlib.Core.Path.{◌≡◌, refl, sym, ap, ◌∙◌}
 use mathlib.Core.Bool.{cond}
 use mathlib.Core.List.{List, [], ◌∷◌}
-use Prim.Native.Nat.{ℕ, zero, suc, ◌+◌, ◌*◌, ◌-◌, ◌/◌, ◌%◌, ◌<◌}
+use Prim.Native.Nat.{ℕ, zero, suc, ◌+◌, ◌*◌, ◌-◌, ◌/◌, ◌%◌, ◌<◌, ◌≤◌}
 use native.Mathlib.Nat.{zero-add}
 use native.Mathlib.Numerals.{add-one}
 use native.Mathlib.Omega.{arith}
 use lib.Dec.{eqb}
-use lib.ListN.{length, get_or, drop, set, length-drop}
-use lib.Seq.{get_or-drop, paste, paste-suc}
+use lib.ListN.{length, get_or, take, drop, set, length-drop}
+use lib.Seq.{get_or-drop, paste, paste-suc, length-take-le}
 use Rattle.formats.specs.Way.{halves}
+use Rattle.words.specs.Octets.{over}
+use Rattle.formats.specs.Messages.{half}
 use Rattle.reader.specs.Told.{no_codes}
 
 -- which half of which octet a signal is
@@ -41,3 +43,12 @@ reads xs i few h codes code e p =
     ∙ ap (λ (k : ℕ). set (paste no_codes 0 (halves os) i) k (get_or (halves os) i 0)) (sym (zero-add i))
     ∙ paste-suc no_codes 0 (halves os) i 0 (rw (zero-add i) few) (omega (arith, length_halves os))
     ∙ ap (paste no_codes 0 (halves os)) (sym (add-one i))
+
+-- and when it has read them all
+pub read_all : (xs : List ℕ) (n i : ℕ) → 9 + half n ≤ length xs → i ≤ n → n ≤ i → (codes : List ℕ) → codes ≡ paste no_codes 0 (halves (drop 9 xs)) i
+    → codes ≡ over (take n (halves (drop 9 xs))) no_codes
+read_all xs n i h a b codes p =
+    let same : i ≡ n = omega arith in
+    let l : length (drop 9 xs) ≡ length xs - 9 = length-drop 9 xs in
+    p ∙ ap (paste no_codes 0 (halves (drop 9 xs))) same
+    ∙ rw (length-take-le n (halves (drop 9 xs)) (omega (arith, length_halves (drop 9 xs))), zero-add n)

@@ -22,6 +22,14 @@ use Rattle.select.proofs.First.{first_holds, first_at, some_at, none_of, none_at
 use Rattle.select.proofs.Orders.{before, Ahead.by_rank, ahead_is, order, lower_first, first_unused}
 use Rattle.select.specs.Selection.{refused, taken, free, qualifies, ours, theirs, earlier, later, stops, looked, choice, bad, choosing, select_in}
 
+-- no bad record from one up to another
+pub record GoodFrom (table : List ℕ) (from i : ℕ) : Type 0 where
+  pub begun : from ≤ i
+  pub good : (j : ℕ) → from ≤ j → j < i → T (bad table j) → ⊥
+
+pub good_start : (table : List ℕ) (from : ℕ) → GoodFrom table from from
+good_start table from = record { begun = omega arith; good = λ j p q t. omega arith }
+
 -- the group is refused, or searched
 module _ (own far : ℕ) (table : List ℕ) where
   abbrev n : ℕ

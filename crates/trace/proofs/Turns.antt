@@ -1,24 +1,29 @@
 -- One event of a replay: its share of the text and of the table, from what the functions that are called for it ensure.
 -- Assumes nothing.
-use mathlib.Core.Path.{◌≡◌, sym, ◌∙◌}
+use mathlib.Core.Path.{◌≡◌, refl, sym, ◌∙◌}
+use mathlib.Core.Bool.{Bool, true, false, cond}
 use mathlib.Core.List.{List}
 use Prim.Native.Nat.{ℕ, ◌≤◌}
 use native.Mathlib.Nat.{zero-add}
 use native.Mathlib.Omega.{arith}
-use Rattle.std.specs.Prelude.{Some}
+use Rattle.std.specs.Prelude.{Some, None}
+use Rattle.std.proofs.lemmas.Option.{none-some}
 use lib.ListN.{length}
-use borrow.Author.Tests.{le-ltb}
+use lib.Dec.{eqb}
+use borrow.Author.Tests.{le-ltb, eqb-true}
 use Rattle.codes.specs.Numbers.{event_of}
 use Rattle.answers.specs.Answers.{Answer, Unpacked}
 use Rattle.group.specs.Table.{Step, step_in}
 use Rattle.text.specs.declared.Line.{Line}
 use Rattle.text.specs.Lines.{line}
+use Rattle.words.specs.Octets.{over}
 use Rattle.text.specs.Writing.{Printed, in_room, line_room}
 use Rattle.records.specs.declared.Recorded.{Recorded}
 use Rattle.records.specs.declared.Item.TheVariants.{Event}
 use Rattle.records.specs.Records.{octets_of, item, behind}
 use Rattle.records.proofs.Items.{whole, behind_event}
 use Rattle.parts.specs.declared.Running.{Running}
+use Rattle.parts.specs.declared.Turn.{Turn}
 use Rattle.parts.specs.Feed.{Share, share_of}
 use Rattle.parts.specs.Way.{Lands}
 use Rattle.parts.proofs.Turns.{some_turn}
@@ -53,3 +58,13 @@ module _ (r : Running) (table part : List ℕ) (e : Recorded) (here : item part 
       let is : in_room room (line l) ≡ event_text r table e = rw (le-ltb (length room) line_room h, x) in
       let some : had.taken ≡ 0 → ⊥ = λ z. omega (arith, (whole part e here).some) in
       rw here (record { answers = rw (p.count, is, further q) (sym (some_turn had some)); leaves = t; writes = rw (p.room, is) })
+
+-- a turn that takes nothing ends the run: there was nothing to take, and the table and the room are as that leaves them
+pub turn_over : (h : Share (List ℕ)) (room table' room' : List ℕ) → Lands h room None table' room' → (h.taken ≡ 0) × (table' ≡ h.state) × (room' ≡ over h.text room)
+turn_over h room table' room' l = (go (eqb h.taken 0) refl l.answers, l.leaves, l.writes)
+  where
+    had_turn : Turn
+    had_turn = record { taken = h.taken; written = length h.text }
+    go : (b : Bool) → eqb h.taken 0 ≡ b → None ≡ cond b None (Some had_turn) → h.taken ≡ 0
+    go true e a = eqb-true _ _ e
+    go false e a = absurd (none-some _ a)
