@@ -5,7 +5,6 @@ use mathlib.Core.Path.{◌∙◌}
 use native.Mathlib.Omega.{arith}
 use borrow.Author.Tests.{ltb-false}
 use Rattle.records.specs.declared.Item.TheVariants.{Event}
-use Rattle.records.specs.Records.{no_event, octets_of}
 use Rattle.records.proofs.Items.{got, no_event_kind, event_kind, ends_at, no_event_at, short_at, event_at}
 use Rattle.records.proofs.item_at.Goals as goal
 
