@@ -46,11 +46,11 @@ returns-then-i-first c =
 
 pub loop-i-preserved : goal.loop-i-preserved
 loop-i-preserved c =
-    let all = c.requires.0 in let h = c.loop-i-test.true in let e = c.stored_at-at.ensures in let s = c.loop-i.invariant in
+    let h = c.loop-i-test.true in let below : c.loop-i.i ≡ c.args.records → ⊥ = λ d. omega (arith, d, h) in
+    let all = c.requires.0 in let e = c.stored_at-at.ensures in let s = c.loop-i.invariant in
     let ok = judged _ _ _ all h e c.if-not-allowed.ensures in
     let is = free_at _ _ _ all h e c.if-not-free.ensures in
     let con = ne_eqb _ _ c.if-i-first.false in
-    let below : c.loop-i.i ≡ c.args.records → ⊥ = λ d. omega (arith, d, h) in
     elim c.if-released_later.branch [
       | then-released_later w ↦ rw (w.theirs-is, ne_eqb c.loop-i.i c.args.records below) (scan_theirs _ _ s ok is _ (rank_is _ _ _ all h e) con (sym w.if-released_later.ensures))
       | else-released_later w ↦ rw w.theirs-is (scan_theirs_stay _ _ s ok is _ (rank_is _ _ _ all h e) con (sym w.if-released_later.ensures))
