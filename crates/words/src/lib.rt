@@ -34,7 +34,7 @@ pub fn number(a: u8, b: u8, c: u8, d: u8, e: u8, f: u8, g: u8, h: u8) -> u64
     u64::from_le_bytes([a, b, c, d, e, f, g, h])
 }
 
-// A word whose octets may not all be there.
+// A word whose octets may not all be there, one by one: of an array that a closure fills, the proof of what it holds did not close.
 fn short_word(xs: &[u8], at: usize) -> u64
     ensures { result ≡ word xs.now at }
 {
