@@ -105,7 +105,7 @@ pub enum Event {
     RunsOut(Timer),
 }
 
-// What an event sends: at most two signals, in order.
+// What an event sends: at most two signals, in order. The definitions of specs/ go by these three cases.
 #[derive(Clone, Copy, Debug, PartialEq, Eq)]
 pub enum Sends {
     Nothing,

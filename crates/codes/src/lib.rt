@@ -15,6 +15,7 @@ pub struct Numbers {
     pub detail: u32,
 }
 
+// A function and no From, as the next one and `event_of` are no TryFrom: both types of each conversion are declared elsewhere.
 pub fn failure_heading(f: Failure) -> u8
     ensures { result ≡ failure_heading f }
 {

@@ -30,7 +30,7 @@ pub fn table_octets(circuits: u32) -> usize
     COUNTER_OCTETS + RECORD_OCTETS * (circuits as usize)
 }
 
-// How many records a table of this length holds; 0 if it is not a counter and whole records.
+// How many records a table of this length holds; 0 if it is not a counter and whole records. 0 and no None: `Codes::bad_group` judges the number.
 #[tactic(auto, using(crate::proofs::Laws::short_records), unfolding(crate::specs::Layout::records_in))]
 pub fn records(octets: usize) -> usize
     ensures { result ≡ records_in octets }

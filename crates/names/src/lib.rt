@@ -4,7 +4,7 @@
 ghost use Rattle.std.specs.Prelude.{◌≡◌};
 ghost use Rattle.names.specs.Refusal.{number_of};
 
-// A circuit's states.
+// A circuit's states. Numbers and no enum: a table's octet may hold any number, and a refusal shows it as it stands (`answers::refused`).
 pub const IDLE: u8 = 0;
 
 pub const OUT_SEIZED: u8 = 1;
@@ -31,7 +31,7 @@ pub const IN_FAILED: u8 = 11;
 
 pub const AWAITING_RESET: u8 = 12;
 
-// What a flag is worth.
+// What a flag is worth in the octet of flags.
 pub const OWN_BLOCK: u8 = 1;
 
 pub const FAR_BLOCK: u8 = 2;
@@ -40,7 +40,7 @@ pub const AWAITING_BLA: u8 = 4;
 
 pub const AWAITING_UBA: u8 = 8;
 
-// Indications.
+// Indications. Numbers and no enum, as headings are: each goes as it is into its octet of the answer that a host in C is given.
 pub const IND_NOTHING: u8 = 0;
 
 pub const IND_CIRCUIT_FREED: u8 = 5;
@@ -53,7 +53,7 @@ pub const IND_ALERT_MAINTENANCE: u8 = 8;
 
 pub const IND_CALL_FAILED: u8 = 10;
 
-// Why an event, a choice or a message is refused. `number` is what the paper calls it, and what a host in C is told.
+// Why an event, a choice or a message is refused. Its number is the paper's, and what a host in C is told.
 #[derive(Clone, Copy, Debug, PartialEq, Eq)]
 pub enum Refusal {
     NoSuchGroup = 1,

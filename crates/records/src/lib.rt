@@ -7,7 +7,8 @@ ghost use Rattle.records.specs.Records.{octets_of, two, detail_of, recorded, ite
 
 use circuit::{Codes, PointCode};
 
-// What an event's record says: kind 1 a signal and its heading, 2 a command, 3 a timer, whose detail is 0.
+// What an event's record says: kind 1 a signal and its heading, 2 a command, 3 a timer, whose detail is 0. The kind is the octet of the file, since
+// `octets_of` answers for any octet, and events are given by numbers (`codes::Numbers`).
 #[derive(Clone, Copy, Debug, PartialEq, Eq)]
 pub struct Recorded {
     pub kind: u8,

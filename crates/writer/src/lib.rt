@@ -84,7 +84,8 @@ fn put_iam(label: u64, category: u8, word: u16, out: &mut [u8])
     out[7..9].copy_from_slice(&word.to_le_bytes());
 }
 
-// The address signals of an IAM, from octet 9 on.
+// The address signals of an IAM, from octet 9 on. By index: an octet is tied to its two signals by their places alone, which pairs of iterators would
+// have to count as well.
 #[tactic(auto, using(crate::proofs::Pairs::at_most))]
 fn put_pairs(address: &[u8], out: &mut [u8])
     requires { (above_fifteen address.now ≡ false) × (9 + half (length address.now) ≤ length out.old) }
