@@ -65,6 +65,7 @@ turn_over h room table' room' l = (go (eqb h.taken 0) refl l.answers, l.leaves, 
   where
     had_turn : Turn
     had_turn = record { taken = h.taken; written = length h.text }
+
     go : (b : Bool) → eqb h.taken 0 ≡ b → None ≡ cond b None (Some had_turn) → h.taken ≡ 0
     go true e a = eqb-true _ _ e
     go false e a = absurd (none-some _ a)
