@@ -6,7 +6,7 @@ ghost use Rattle.answers.specs.Answers.{word};
 
 use circuit::Held;
 
-// The fields of an answer; a heading of 0 stands for no signal.
+// The fields of an answer. Numbers, since they are its octets as they were read back; a heading of 0 stands for no signal.
 #[derive(Clone, Copy, Debug, PartialEq, Eq)]
 pub struct Fields {
     pub refusal: u8,

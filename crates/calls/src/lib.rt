@@ -9,7 +9,8 @@ ghost use Rattle.calls.specs.Way.{column_of};
 use circuit::Signal;
 
 // What a signal does to the call: the new state, the heading of what is sent, 0 for nothing, and the indication.
-// Numbers and no Option, since each goes as it is into its octet of the answer, where a host in C reads 0 for no signal.
+// Numbers and no Option: each goes as it is into its octet of the answer, where a host in C reads 0 for no signal, and
+// `call` of specs/Calls has 0 for none.
 #[derive(Clone, Copy, Debug, PartialEq, Eq)]
 pub struct Call {
     pub state: u8,

@@ -113,7 +113,8 @@ pub enum Sends {
     Two(Signal, Signal),
 }
 
-// What an event answers: the refusal's number, 0 where there is none; the record after it; the signals; the indication.
+// What an event answers: the refusal's number, 0 where there is none; the record after it; the signals; the indication. A number and no Result, since
+// the definitions alone speak of it, in the paper's numbers; the program answers one number (`answers`).
 #[derive(Clone, Copy, Debug, PartialEq, Eq)]
 pub struct Outcome {
     pub refusal: u8,
@@ -122,7 +123,8 @@ pub struct Outcome {
     pub ind: u8,
 }
 
-// A row of a printed table: its first and its last state, its further condition; what is sent, the new record, the indication.
+// A row of a printed table: its first and its last state, its further condition; what is sent, the new record, the indication. No field has
+// a name, since the definitions alone speak of rows, and write them as the paper prints them.
 #[derive(Clone, Copy, Debug, PartialEq, Eq)]
 pub struct Row(pub u8, pub u8, pub bool, pub Sends, pub Record, pub u8);
 
@@ -151,7 +153,7 @@ impl Codes {
     pub fn are_bad(self) -> bool
         ensures { result ≡ bad_codes self.own.0 self.far.0 }
     {
-        bad_code(self.own) || bad_code(self.far) || self.own.0 == self.far.0
+        bad_code(self.own) || bad_code(self.far) || self.own == self.far
     }
 
     // Whether a group of so many records is refused 1: by its codes, or by that number.

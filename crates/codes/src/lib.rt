@@ -15,7 +15,8 @@ pub struct Numbers {
     pub detail: u32,
 }
 
-// A function and no From, as the next one and `event_of` are no TryFrom: both types of each conversion are declared elsewhere.
+// A function and no From, and the next one no TryFrom: an impl would have to stand with the type, which is circuit's, and the
+// numbers are this crate's.
 pub fn failure_heading(f: Failure) -> u8
     ensures { result ≡ failure_heading f }
 {
@@ -76,13 +77,10 @@ fn with_octet(code: u32, detail: u32) -> Option<Event>
     requires { 0 < detail }
     ensures { result ≡ signal_event code detail }
 {
-    if 255 < detail {
-        return None;
+    match (code, u8::try_from(detail)) {
+        (0x14, Ok(octet)) => Some(Event::Arrives(Signal::Acm(octet))),
+        _ => None,
     }
-    if code == 0x14 {
-        return Some(Event::Arrives(Signal::Acm(detail as u8)));
-    }
-    None
 }
 
 fn signal_event(code: u32, detail: u32) -> Option<Event>
@@ -158,7 +156,7 @@ fn timer_event(code: u32, detail: u32) -> Option<Event>
     }
 }
 
-// The event of these numbers; where there is none, that is refusal 3.
+// The event of these numbers; where there is none, that is refusal 3. No TryFrom: without an event there is nothing to say but None.
 pub fn event_of(n: Numbers) -> Option<Event>
     ensures { result ≡ event_of n.kind n.code n.detail }
 {

@@ -249,6 +249,7 @@ pub fn on_command(held: Held, k: Command) -> u64
     }
 }
 
+// By its own test, since the two states are no range: ADDRESS_WAIT with these bounds would take the state between them too.
 fn answer_wait(held: Held) -> u64
     ensures { result ≡ timer_way held.state held.flags Timer.AnswerWait }
 {

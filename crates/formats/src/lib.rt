@@ -7,7 +7,8 @@ ghost use Rattle.formats.specs.Octets.{bad_code, bad_codes, first_bad, above_fif
 ghost use Rattle.formats.specs.Messages.{fixed_length, listed};
 ghost use Rattle.formats.specs.Way.{group_of};
 
-// The headings of the two messages that have fields of their own.
+// The headings of the two messages that have fields of their own. They stand beside those of `names`, since a heading from C is any number of 32
+// bits.
 pub const IAM: u32 = 0x11;
 
 pub const ACM: u32 = 0x14;

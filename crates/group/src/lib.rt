@@ -42,7 +42,7 @@ impl Landing {
     {
         let count = layout::counter_in(table);
         if words::LARGEST <= count {
-            return answers::refused(Refusal::CounterFull as u8, self.held);
+            return answers::refused(u8::from(Refusal::CounterFull), self.held);
         }
         let taken = self.store(table);
         layout::put_counter(table, count + 1);
@@ -94,10 +94,10 @@ pub fn step(codes: Codes, table: &mut [u8], cic: Cic, numbers: Numbers) -> u64
     ensures leaves { table.new ≡ (step_in codes.own.0 codes.far.0 table.old cic.0 (event_of numbers.kind numbers.code numbers.detail)).table }
 {
     if codes.are_bad() || layout::bad_length(table.len()) {
-        return answers::refused(Refusal::NoSuchGroup as u8, NOTHING);
+        return answers::refused(u8::from(Refusal::NoSuchGroup), NOTHING);
     }
     if layout::ends_before(table.len(), cic) {
-        return answers::refused(Refusal::NoSuchCircuit as u8, NOTHING);
+        return answers::refused(u8::from(Refusal::NoSuchCircuit), NOTHING);
     }
     on_circuit(codes.control(cic), table, cic, numbers)
 }

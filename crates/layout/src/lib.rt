@@ -70,7 +70,8 @@ pub fn counter_in(table: &[u8]) -> u64
     words::word(table, 0)
 }
 
-// All that stands at a circuit, by one look at the table's length; zeros where the table has no such circuit.
+// All that stands at a circuit, by one look at the table's length; zeros and no None where the table has no such circuit, as the
+// definition `stored_at` has it.
 pub fn stored_at(table: &[u8], cic: Cic) -> Stored
     ensures { result ≡ stored_at table.now cic.0 }
 {

@@ -18,7 +18,8 @@ pub struct Flags {
 }
 
 // What is done to the flags, the heading of what is sent for it, 0 for none, and whether the signal goes no further than the marks.
-// Numbers and no Option, since each goes as it is into its octet of the answer, where a host in C reads 0 for no signal.
+// Numbers and no Option: each goes as it is into its octet of the answer, where a host in C reads 0 for no signal, and
+// `marked` of specs/Way has 0 for none.
 #[derive(Clone, Copy, Debug, PartialEq, Eq)]
 pub struct Marked {
     pub flags: u8,
@@ -68,7 +69,7 @@ pub fn legal_in_reset(flags: u8) -> bool
     matches!(flags, 0 | 2)
 }
 
-// The flags after the commands block and unblock.
+// The flags after the commands block and unblock. Two functions, since each is a public promise, and one expression.
 pub fn blocked(flags: u8) -> u8
     ensures { result ≡ blocked flags }
 {

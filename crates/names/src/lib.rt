@@ -84,7 +84,7 @@ impl From<Refusal> for u8 {
 // What an answer says where nothing is refused.
 pub const ACCEPTED: u8 = 0;
 
-// Headings; no heading stands for no signal.
+// Headings; 0 stands for no signal.
 pub const NO_SIGNAL: u8 = 0;
 
 pub const IAM: u8 = 0x11;

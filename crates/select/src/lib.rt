@@ -33,14 +33,15 @@ fn free(at: Stored) -> bool
     at.held.state == names::IDLE && !marks::Flags::from(at.held.flags).far
 }
 
-// Whether all records from one on are allowed.
+// Whether all records from `from` on are allowed.
 fn allowed_from(table: &[u8], from: u32, records: u32) -> bool
     ensures { result ≡ list_all (allowed_there table.now) (range_with_len from (records - from)) }
 {
     (from..records).all(|i| layout::allowed(layout::stored_at(table, Cic(i)).held))
 }
 
-// Those of ours from one on, where `best` leads those before it. Every second circuit is ours.
+// Those of ours from `from` on, where `best` leads those before it. Every second circuit is ours. Table and number are no struct
+// here and in `search`, though the number is the table's: they come apart where it ends a range.
 fn ours_from(table: &[u8], from: u32, mut best: Leader, records: u32) -> Choice
     requires records_bound { (records ≤ records_in (length table.now)) × (records ≤ 4096) × (best.cic.0 < records) }
     requires led { Led (by_parity (from % 2)) table.now from best.cic.0 best.rank }

@@ -1,5 +1,6 @@
 // The static library that a host in C links: each entry calls the function of its name in `tup` and promises the same.
-// Parameters are single numbers, as include/tup.h declares them, and clauses are those of `tup` word for word: the C interface needs both.
+// Parameters are single numbers, as include/tup.h declares them. The clauses of `tup` are repeated word for word, since no crate can stand on a
+// static library.
 #![tactic(auto)]
 
 ghost use Rattle.std.specs.Prelude.{◌≡◌};

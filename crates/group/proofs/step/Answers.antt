@@ -18,7 +18,7 @@ returns-then-are_bad c =
       | then-are_bad-via-else-are_bad+then-bad_length w ↦ bad_by_length (bad_codes own far) (length a.table.now) (sym w.if-bad_length.ensures)
     ] in
     let e = nothing 1 c.refused.result (step_in own far a.table.now a.cic.0 event) a.table.now _ (omega arith)
-    (no_group own far a.table.now a.cic.0 event is) c.refused.ensures refl in
+    (no_group own far a.table.now a.cic.0 event is) (rw c.from.ensures at c.refused.ensures) refl in
     record { packs = e.0; unpacks = e.1.0; leaves = e.1.1 }
 
 pub returns-then-ends_before : goal.returns-then-ends_before
@@ -29,7 +29,7 @@ returns-then-ends_before c =
     (no_circuit own far a.table.now a.cic.0 event
     (good_group (bad_codes own far) (length a.table.now) (sym c.if-are_bad.ensures) whole)
     (has_not (length a.table.now) a.cic.0 whole (sym c.if-ends_before.ensures)))
-    c.refused-then-ends_before.ensures refl in
+    (rw c.from-then-ends_before.ensures at c.refused-then-ends_before.ensures) refl in
     record { packs = e.0; unpacks = e.1.0; leaves = e.1.1 }
 
 pub on_circuit-requires : goal.on_circuit-requires
