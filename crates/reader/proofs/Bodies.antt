@@ -217,6 +217,10 @@ module _ (records : ℕ) (xs : List ℕ) where
           unfolding body_of
           iam_taken f r = at7 (fields_in 0x11 xs) (length xs) 8 s₄ false t₁ t₂ t₃ t₄ t₅ t₆ refl (le-ltb _ _ h) (ne_eqb _ _ z) (ap not (eq-eqb _ _ n)) b f (lt-leb _ _ r)
 
+-- the number of two octets, lowest first
+pub of_two : (a b : ℕ) → a + b * 256 ≡ number_of (a ∷ b ∷ [])
+of_two a b = omega arith
+
 -- the same of an IAM whose two octets were read as the number w
 module _ (records : ℕ) (xs : List ℕ) (octets : (i : ℕ) → get_or xs i 0 < 256) (w : ℕ) (is : w ≡ number_of (get_or xs 7 0 ∷ get_or xs 8 0 ∷ [])) where
   count : counted records xs ≡ w / 4096
@@ -337,11 +341,14 @@ module _ (own far records : ℕ) (xs : List ℕ) where
 
 -- a label that was read as a number
 module _ (label : ℕ) (xs : List ℕ) (octets : (i : ℕ) → get_or xs i 0 < 256) (is : label ≡ number_of (get_or xs 0 0 ∷ get_or xs 1 0 ∷ get_or xs 2 0 ∷ get_or xs 3 0 ∷ get_or xs 4 0 ∷ [])) where
-  pub strays : (own far : ℕ) {b : Bool} → (not (eqb (label % 2 ^ 14) own) || not (eqb (label / 2 ^ 14 % 2 ^ 14) far)) ≡ b → elsewhere own far xs ≡ b
-  strays own far e = rw (dpc_there xs octets, opc_there xs octets, ← is) e
-
-  pub stray_at : (own : ℕ) → cond (eqb (label % 2 ^ 14) own) 1 0 ≡ stray_octet own xs
-  stray_at own = rw (dpc_there xs octets, ← is)
+  pub stray_if : (own far : ℕ) → cond {A = Option ℕ} (eqb (label % 2 ^ 14) own) (cond {A = Option ℕ} (eqb (label / 2 ^ 14 % 2 ^ 14) far) None (Some 1)) (Some 0) ≡ cond {A = Option ℕ} (elsewhere own far xs) (Some (stray_octet own xs)) None
+  stray_if own far = rw (dpc_there xs octets, opc_there xs octets, ← is) (go (eqb (label % 2 ^ 14) own) (eqb (label / 2 ^ 14 % 2 ^ 14) far))
+    where
+      go : (a b : Bool) → cond {A = Option ℕ} a (cond {A = Option ℕ} b None (Some 1)) (Some 0) ≡ cond {A = Option ℕ} (not a || not b) (Some (cond a 1 0)) None
+      go true true = refl
+      go true false = refl
+      go false true = refl
+      go false false = refl
 
   pub the_circuit : label / 2 ^ 28 ≡ cic_in xs
   the_circuit = ap (λ (l : ℕ). l / 2 ^ 28) is ∙ sym (cic_there xs octets)

@@ -1,7 +1,7 @@
 // The reader of messages on the link (docs/RULES.md, "Messages on the link"; Q.723): octets that arrived, as a message or as the refusal of one.
 #![tactic(auto)]
 
-ghost use Rattle.std.specs.Prelude.{◌≡◌, cond, not, ◌||◌, eqb, ◌+◌, ◌/◌, ◌%◌, ◌≤◌, ◌^◌, length, get_or, drop, take, Err};
+ghost use Rattle.std.specs.Prelude.{◌≡◌, cond, eqb, ◌+◌, ◌/◌, ◌%◌, ◌≤◌, ◌^◌, length, get_or, drop, take, Some, None, Err};
 ghost use Rattle.names.specs.Refusal.{number_of};
 ghost use Rattle.words.specs.Octets.{over};
 ghost use Rattle.formats.specs.Messages.{half, iam_heading};
@@ -20,7 +20,8 @@ const SPARE_INDICATOR: u64 = 2048;
 const SPARE_BITS: u8 = 64;
 
 // A message by numbers: circuit, heading, ACM's octet, IAM's category, indicators and count, and its address signals. A field that the heading does
-// not have is 0, and so is each code from the count on.
+// not have is 0, and so is each code from the count on: `fields_from`, their definition, has it so. A count and an array of fifteen, since there is
+// no heap.
 #[derive(Clone, Copy, Debug, PartialEq, Eq)]
 pub struct Fields {
     pub circuit: Cic,
@@ -33,7 +34,7 @@ pub struct Fields {
 }
 
 // What a message says. The address stands beside the signal and not in it (docs/DECISIONS.md, D102), and so do the other fields that only an
-// IAM has.
+// IAM has, 0 in any other message, as in the definition `message_of`.
 #[derive(Clone, Copy, Debug, PartialEq, Eq)]
 pub struct Message {
     pub circuit: Cic,
@@ -97,7 +98,7 @@ fn read_iam(records: usize, circuit: Cic, octets: &[u8]) -> Result<Fields, Fault
     if octets.len() < formats::IAM_OCTETS {
         return Err(wrong_length(octets));
     }
-    let word = words::number(octets[7], octets[8], 0, 0, 0, 0, 0, 0);
+    let word = u64::from(u16::from_le_bytes([octets[7], octets[8]]));
     let count = (word / formats::COUNT_PLACE) as usize;
     if count == 0 {
         return Err(Fault::new(Refusal::WrongAddress, formats::COUNT_OCTET));
@@ -164,22 +165,16 @@ fn read_body(records: usize, circuit: Cic, octets: &[u8]) -> Result<Fields, Faul
     })
 }
 
-// Whether a label is not for us from the far end.
-fn elsewhere(codes: Codes, label: u64) -> bool
-    ensures { result ≡ (not (eqb (label % 2 ^ 14) codes.own.0) || not (eqb (label / 2 ^ 14 % 2 ^ 14) codes.far.0)) }
+// Where a label is wrong that is not for us from the far end: at DPC, and where that is right at OPC.
+fn stray_octet(codes: Codes, label: u64) -> Option<u64>
+    ensures { result ≡ cond (eqb (label % 2 ^ 14) codes.own.0) (cond (eqb (label / 2 ^ 14 % 2 ^ 14) codes.far.0) None (Some 1)) (Some 0) }
 {
-    label % formats::OPC_PLACE != u64::from(codes.own.0)
-        || label / formats::OPC_PLACE % formats::OPC_PLACE != u64::from(codes.far.0)
-}
-
-// Where such a label is wrong: at DPC, and where that is right at OPC.
-fn stray_octet(codes: Codes, label: u64) -> u64
-    ensures { result ≡ cond (eqb (label % 2 ^ 14) codes.own.0) 1 0 }
-{
-    if label % formats::OPC_PLACE == u64::from(codes.own.0) {
-        formats::OPC_OCTET
+    if label % formats::OPC_PLACE != u64::from(codes.own.0) {
+        Some(formats::DPC_OCTET)
+    } else if label / formats::OPC_PLACE % formats::OPC_PLACE != u64::from(codes.far.0) {
+        Some(formats::OPC_OCTET)
     } else {
-        formats::DPC_OCTET
+        None
     }
 }
 
@@ -196,8 +191,8 @@ pub fn read_fields(codes: Codes, records: usize, octets: &[u8]) -> Result<Fields
     let label = words::number(
         octets[0], octets[1], octets[2], octets[3], octets[4], 0, 0, 0,
     );
-    if elsewhere(codes, label) {
-        return Err(Fault::new(Refusal::WrongLabel, stray_octet(codes, label)));
+    if let Some(octet) = stray_octet(codes, label) {
+        return Err(Fault::new(Refusal::WrongLabel, octet));
     }
     read_body(records, Cic((label / formats::CIC_PLACE) as u32), octets)
 }
