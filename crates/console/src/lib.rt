@@ -3,6 +3,7 @@
 #![tactic(auto)]
 
 ghost use Rattle.std.specs.Prelude.{◌≡◌, ◌+◌, ◌≤◌, length};
+ghost use Rattle.parts.specs.Feed.{Within};
 
 use arguments::{Source, Stop};
 use parts::{Fed, Stage};
@@ -31,19 +32,19 @@ trait Program: Drop {
 
     // Takes what can be taken of a part of the file, and writes its lines into the room.
     fn feed(&mut self, stage: Stage, part: &[u8], room: &mut [u8]) -> Fed
-        ensures { (result.taken ≤ length part.now) × (result.written ≤ length room.old) };
+        ensures { Within result part.now room.old };
 }
 
 // The replay has the table of its group.
 #[derive(Drop)]
 struct Replay {
-    table: [u8; 40968],
+    table: [u8; trace::MOST_TABLE_OCTETS],
 }
 
 impl Replay {
     fn new() -> Replay {
         Replay {
-            table: [0u8; 40968],
+            table: [0u8; trace::MOST_TABLE_OCTETS],
         }
     }
 }

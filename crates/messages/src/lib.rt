@@ -9,7 +9,7 @@ ghost use Rattle.reader.specs.Told.{told};
 ghost use Rattle.reader.specs.Reading.{fields_of};
 ghost use Rattle.records.specs.Records.{octet};
 ghost use Rattle.parts.specs.Whole.{Stateless, no_state};
-ghost use Rattle.parts.specs.Feed.{answer_of, fed};
+ghost use Rattle.parts.specs.Feed.{answer_of, fed, Within};
 ghost use Rattle.messages.specs.Listing.{iam_line_of, read_line, message_line, message_in, per_message};
 
 use parts::{Fed, Kind, Running, Stage, Turn};
@@ -41,13 +41,11 @@ fn read_line(room: &mut [u8], ordinal: u64, f: Fields) -> usize
     requires { f.count ≤ length f.address }
     ensures { Printed room.old (in_room room.old (read_line ordinal (told (Ok f)))) result room.new }
 {
-    if f.heading == formats::IAM as u8 {
-        return iam_line(room, ordinal, f);
+    match f.heading {
+        names::IAM => iam_line(room, ordinal, f),
+        names::ACM => text::acm_line(room, ordinal, f.circuit.0, f.heading, f.acm),
+        _ => text::plain_line(room, ordinal, f.circuit.0, f.heading),
     }
-    if f.heading == formats::ACM as u8 {
-        return text::acm_line(room, ordinal, f.circuit.0, f.heading, f.acm);
-    }
-    text::plain_line(room, ordinal, f.circuit.0, f.heading)
 }
 
 // The line of a message, by what the reader answers in the group of the file.
@@ -94,7 +92,7 @@ impl Kind for Listing {
 pub fn feed(stage: Stage, part: &[u8], room: &mut [u8]) -> Fed
     ensures answers { result ≡ answer_of (fed per_message stage no_state part.now (length room.old)) }
     ensures writes { room.new ≡ over (fed per_message stage no_state part.now (length room.old)).text room.old }
-    ensures within { (result.taken ≤ length part.now) × (result.written ≤ length room.old) }
+    ensures within { Within result part.now room.old }
 {
     parts::feed::<Listing>(&mut [], stage, part, room)
 }

@@ -19,12 +19,12 @@ use Rattle.parts.specs.declared.Stage.TheVariants.{Start, Bad, Runs, Cut}
 use Rattle.parts.specs.declared.Fed.{Fed}
 use Rattle.records.specs.Records.{octets_of, own_in, far_in, circuits_in, group_in, refused_start}
 use Rattle.parts.specs.Whole.{Making, no_state}
-use Rattle.parts.specs.Feed.{Part, answer_of, stays, begins, fed, last_line}
+use Rattle.parts.specs.Feed.{Part, Within, answer_of, stays, begins, fed, last_line}
 use Rattle.parts.proofs.Rooms.{fits_room}
 
 -- an answer and the room after it are those of a part
 abbrev pub Begun : {T : Type 0} → Fed → List ℕ → List ℕ → List ℕ → Part T → Type 0
-Begun a s room room₀ p = (a ≡ answer_of p) × ((room ≡ over p.text room₀) × ((a.taken ≤ length s) × (a.written ≤ length room₀)))
+Begun a s room room₀ p = (a ≡ answer_of p) × ((room ≡ over p.text room₀) × Within a s room₀)
 
 module _ (s room : List ℕ) where
   pub too_few : length s < octets_of 0 → Begun (answer_of (stays Start no_state)) s room room (begins no_state s (length room))
@@ -63,7 +63,7 @@ module _ {T : Type 0} where
       by_test (ltb (length s) (octets_of 0)) (λ e. simp e) (λ e. by_test (refused_start s) (λ f. simp (e, f)) (λ f. by_test (ltb n line_room) (λ g. simp (e, f, g)) (λ g. simp (e, f, g))))
 
   pub begun_in : (state : T) (s room₀ : List ℕ) (n : ℕ) {a : Fed} {room : List ℕ} → Begun a s room room₀ (begins no_state s n)
-      → (a ≡ answer_of (begins state s n)) × ((state ≡ (begins state s n).state) × ((room ≡ over (begins state s n).text room₀) × ((a.taken ≤ length s) × (a.written ≤ length room₀))))
+      → (a ≡ answer_of (begins state s n)) × ((state ≡ (begins state s n).state) × ((room ≡ over (begins state s n).text room₀) × Within a s room₀))
   begun_in state s room₀ n q = rw (any_state state s n) (q.0, (refl, q.1))
 
 -- and the last line where no good group came

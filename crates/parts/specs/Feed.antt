@@ -1,6 +1,6 @@
 -- A file in parts: how far its text comes with a part of it and some room for text, and what is left.
 -- Assumes nothing.
-use Rattle.std.specs.Prelude.{Bool, true, false, cond, ◌&&◌, List, [], ◌++◌, ℕ, zero, suc, ◌+◌, ◌-◌, eqb, leb, ltb, length, take, drop}
+use Rattle.std.specs.Prelude.{◌≤◌, Bool, true, false, cond, ◌&&◌, List, [], ◌++◌, ℕ, zero, suc, ◌+◌, ◌-◌, eqb, leb, ltb, length, take, drop}
 use Rattle.words.specs.Words.{largest}
 use Rattle.text.specs.Lines.{group_line, end_line, cut_line, bad_group_line}
 use Rattle.text.specs.Writing.{line_room}
@@ -17,6 +17,10 @@ pub record Part (T : Type 0) : Type 0 where
   pub text : List ℕ
   pub stage : Stage
   pub state : T
+
+-- no more is taken than the part has, and no more written than the room
+abbrev pub Within : Fed → List ℕ → List ℕ → Type 0
+Within fed part room = (fed.taken ≤ length part) × (fed.written ≤ length room)
 
 -- one record's share
 pub record Share (T : Type 0) : Type 0 where

@@ -1,12 +1,12 @@
 -- A program's way through the records of a part. Contracts of private functions cite it, and no promise leans on it.
 -- Assumes nothing.
-use Rattle.std.specs.Prelude.{◌≡◌, cond, List, Option, Some, None, ℕ, ◌≤◌, eqb, length}
+use Rattle.std.specs.Prelude.{◌≡◌, cond, List, Option, Some, None, ℕ, eqb, length}
 use Rattle.words.specs.Octets.{over}
 use Rattle.parts.specs.declared.Running.{Running}
 use Rattle.parts.specs.declared.Turn.{Turn}
 use Rattle.parts.specs.declared.Fed.{Fed}
 use Rattle.parts.specs.Whole.{Making}
-use Rattle.parts.specs.Feed.{Share, run, answer_of}
+use Rattle.parts.specs.Feed.{Share, run, answer_of, Within}
 
 -- what is taken of the part and written into the room, if anything is taken
 abbrev pub turn_of : {T : Type 0} → Share T → Option Turn
@@ -23,4 +23,4 @@ pub record Ran {T : Type 0} (w : Making T) (r : Running) (state : T) (part room 
   pub answers : a ≡ answer_of (run w r state part (length room))
   pub leaves : state' ≡ (run w r state part (length room)).state
   pub writes : room' ≡ over (run w r state part (length room)).text room
-  pub within : (a.taken ≤ length part) × (a.written ≤ length room)
+  pub within : Within a part room

@@ -8,7 +8,7 @@ ghost use Rattle.words.specs.Octets.{over};
 ghost use Rattle.words.specs.Words.{largest};
 ghost use Rattle.parts.specs.declared.Running.{Running};
 ghost use Rattle.parts.specs.Whole.{Making, Lawful, no_state, onward};
-ghost use Rattle.parts.specs.Feed.{may_go, starts_none, share_of, share, stays, begins, fed, answer_of, is_over, last_line, kept};
+ghost use Rattle.parts.specs.Feed.{may_go, starts_none, share_of, share, stays, begins, fed, answer_of, is_over, last_line, kept, Within};
 ghost use Rattle.parts.specs.Way.{Lands, Ran};
 
 use records::Group;
@@ -137,9 +137,9 @@ fn last_of(r: Running, rest: &[u8], room: &mut [u8]) -> usize
 pub fn begin(part: &[u8], room: &mut [u8]) -> Fed
     ensures answers { result ≡ answer_of (begins no_state part.now (length room.old)) }
     ensures writes { room.new ≡ over (begins no_state part.now (length room.old)).text room.old }
-    ensures within { (result.taken ≤ length part.now) × (result.written ≤ length room.old) }
+    ensures within { Within result part.now room.old }
 {
-    let octets = records::octets_of(0);
+    let octets = records::octets_of(records::GROUP);
     if part.len() < octets {
         return Stage::Start.stay();
     }
@@ -150,7 +150,7 @@ pub fn begin(part: &[u8], room: &mut [u8]) -> Fed
         return Stage::Start.stay();
     }
     let group = records::group_in(part);
-    let written = text::group_line(room, group.codes.own.0, group.codes.far.0, group.circuits);
+    let written = text::group_line(room, group.codes, group.circuits);
     Fed {
         taken: octets,
         written,
@@ -199,7 +199,7 @@ pub fn feed<K: Kind>(lent: &mut [u8], stage: Stage, part: &[u8], room: &mut [u8]
     ensures answers { result ≡ answer_of (fed K.making stage (K.state_in lent.old) part.now (length room.old)) }
     ensures leaves { K.state_in lent.new ≡ (fed K.making stage (K.state_in lent.old) part.now (length room.old)).state }
     ensures writes { room.new ≡ over (fed K.making stage (K.state_in lent.old) part.now (length room.old)).text room.old }
-    ensures within { (result.taken ≤ length part.now) × (result.written ≤ length room.old) }
+    ensures within { Within result part.now room.old }
 {
     match stage {
         Stage::Start => begin(part, room),
@@ -208,7 +208,8 @@ pub fn feed<K: Kind>(lent: &mut [u8], stage: Stage, part: &[u8], room: &mut [u8]
     }
 }
 
-// Moves what lies from `at` up to `have` to the start of a buffer, and answers how many octets that is: none where the two are no places of it.
+// Moves what lies from `at` up to `have` to the start of a buffer, and answers how many octets that is. Where the two are no places of the
+// buffer, one behind the other, it moves nothing and answers 0.
 pub fn keep(buffer: &mut [u8], at: usize, have: usize) -> usize
     ensures answers { result ≡ length (kept buffer.old at have) }
     ensures moves { buffer.new ≡ over (kept buffer.old at have) buffer.old }

@@ -7,7 +7,16 @@ ghost use Rattle.records.specs.Records.{octets_of, two, detail_of, recorded, ite
 
 use circuit::{Codes, PointCode};
 
-// What an event's record says: kind 1 a signal and its heading, 2 a command, 3 a timer, whose detail is 0. The kind is the octet of the file, since
+// The kinds of record: the first octet of each. The group comes first, and the others are events.
+pub const GROUP: u8 = 0;
+
+pub const SIGNAL: u8 = 1;
+
+pub const COMMAND: u8 = 2;
+
+pub const TIMER: u8 = 3;
+
+// What an event's record says: a signal and its heading, a command, or a timer, whose detail is 0. The kind is the octet of the file, since
 // `octets_of` answers for any octet, and events are given by numbers (`codes::Numbers`).
 #[derive(Clone, Copy, Debug, PartialEq, Eq)]
 pub struct Recorded {
@@ -34,15 +43,15 @@ pub struct Group {
     pub circuits: u16,
 }
 
-// The octets of a record, its kind included, by its kind.
+// The octets of a record, its kind included, by its kind; 0 for what is no kind, as the definition `octets_of` has it. Callers ask it of kinds
+// alone, and would have to unwrap an `Option`.
 pub fn octets_of(kind: u8) -> usize
     ensures { result ≡ octets_of kind }
 {
     match kind {
-        0 => 7,
-        1 => 5,
-        2 => 5,
-        3 => 4,
+        GROUP => 7,
+        SIGNAL | COMMAND => 5,
+        TIMER => 4,
         _ => 0,
     }
 }
@@ -57,7 +66,7 @@ fn two(s: &[u8], at: usize) -> u16
 fn detail(kind: u8, octet: u8) -> u8
     ensures { result ≡ detail_of kind octet }
 {
-    if kind == 3 { 0 } else { octet }
+    if kind == TIMER { 0 } else { octet }
 }
 
 fn recorded_at(s: &[u8], at: usize) -> Recorded
@@ -80,7 +89,7 @@ pub fn item_at(s: &[u8], at: usize) -> Item
     let Some(&kind) = s.get(at) else {
         return Item::End;
     };
-    if kind == 0 || 3 < kind {
+    if kind == GROUP || TIMER < kind {
         return Item::NoEvent;
     }
     if s.len() - at < octets_of(kind) {
@@ -94,7 +103,7 @@ pub fn refused_start(s: &[u8]) -> bool
     ensures { result ≡ refused_start s.now }
 {
     let Group { codes, circuits } = group_in(s);
-    words::octet(s, 0, 0) != 0 || codes.bad_group(usize::from(circuits))
+    words::octet(s, 0, 0) != GROUP || codes.bad_group(usize::from(circuits))
 }
 
 pub fn group_in(s: &[u8]) -> Group

@@ -89,7 +89,7 @@ const TURNS: usize = 60;
 // Writes the text of a trace, and answers how many octets that is; none where it goes beyond the room. At each turn the run is shown up to
 // `size` octets more, behind what is not taken yet of those before.
 fn replayed(size: usize, whole: &[u8], room: &mut [u8]) -> Option<usize> {
-    let mut table = [0u8; 40968];
+    let mut table = [0u8; trace::MOST_TABLE_OCTETS];
     let mut stage = Stage::Start;
     let mut at = 0;
     let mut shown = 0usize;

@@ -14,7 +14,7 @@ no_field = 45 ∷ 32 ∷ []
 
 -- state and flags; refusal 2 prints "-" for both
 unfoldable pub state_and_flags : Line → List ℕ
-state_and_flags l = cond (eqb l.refusal 2) (no_field ++ no_field) (field l.state ++ field l.flags)
+state_and_flags l = cond (eqb l.refusal 2) (no_field ++ no_field) (field l.held.state ++ field l.held.flags)
 
 -- the headings sent in order, joined by a comma, "-" for none; 0 stands for no heading
 unfoldable pub headings : ℕ → ℕ → List ℕ

@@ -1,5 +1,6 @@
 // The lines of a replay and of a list of messages, written into lent room. Each public function writes its line at the room's start and
-// answers how many octets that took; where the room has fewer than `LINE` octets, it writes nothing and answers 0.
+// answers how many octets that took; where the room has fewer than `LINE` octets, it writes nothing and answers 0, as `Printed` has it, which
+// is in the contracts of all of them.
 // Digits are made by hand: a line by `write!` takes more than twice the instructions.
 #![tactic(auto)]
 
@@ -12,6 +13,7 @@ ghost use Rattle.text.specs.Writing.{Printed, in_room};
 ghost use Rattle.text.specs.Way.{Wrote, Writes};
 ghost use Rattle.text.specs.Lines.{field, state_and_flags, headings, line, group_line, end_line, cut_line, bad_group_line, read_start, signals, refused_line, plain_line, acm_line, iam_line};
 
+use circuit::{Codes, Held};
 use names::Refusal;
 
 // Six numbers of 20 digits and a space each, two headings and a comma, and the line feed.
@@ -20,14 +22,14 @@ pub const LINE: usize = 132;
 // The most address signals that a message can have.
 const MOST_SIGNALS: usize = 15;
 
-// What an event's line says. A heading of 0 stands for none. `event_line` has a line for any octets, so they are no enums.
+// What an event's line says. A heading of 0 stands for none. `event_line` has a line for any octets, also those that are no refusal, indication or
+// heading, so these stay numbers.
 #[derive(Clone, Copy, Debug, PartialEq, Eq)]
 pub struct Line {
     pub ordinal: u64,
     pub circuit: u16,
     pub refusal: u8,
-    pub state: u8,
-    pub flags: u8,
+    pub held: Held,
     pub ind: u8,
     pub first: u8,
     pub second: u8,
@@ -124,8 +126,8 @@ impl Pen<'_> {
         if l.refusal == Refusal::NoSuchCircuit as u8 {
             return self.word(b"- - ");
         }
-        self.field(u64::from(l.state));
-        self.field(u64::from(l.flags));
+        self.field(u64::from(l.held.state));
+        self.field(u64::from(l.held.flags));
     }
 
     // The start of the line of a message that was read, up to its fields.
@@ -210,25 +212,26 @@ pub fn event_line(room: &mut [u8], l: Line) -> usize
 }
 
 // Line 1, the group.
-pub fn group_line(room: &mut [u8], own: u32, far: u32, circuits: u16) -> usize
-    ensures { Printed room.old (in_room room.old (group_line own far circuits)) result room.new }
+pub fn group_line(room: &mut [u8], codes: Codes, circuits: u16) -> usize
+    ensures { Printed room.old (in_room room.old (group_line codes.own.0 codes.far.0 circuits)) result room.new }
 {
     written(
         room,
         |pen|
             requires { pen.old.at ≡ 0 }
-            ensures { Wrote pen.old (group_line own far circuits) LINE pen.new }
+            ensures { Wrote pen.old (group_line codes.own.0 codes.far.0 circuits) LINE pen.new }
         {
             pen.word(b"own ");
-            pen.field(u64::from(own));
+            pen.field(u64::from(codes.own.0));
             pen.word(b"far ");
-            pen.field(u64::from(far));
+            pen.field(u64::from(codes.far.0));
             pen.numbered(b"circuits ", u64::from(circuits));
         },
     )
 }
 
-// The last line: "end" and the number of events, "cut" and the next event's ordinal, or "bad group".
+// The last line: "end" and the number of events, "cut" and the next event's ordinal, or "bad group". These are three functions, one to each
+// line that docs/RULES.md names, as the definitions `end_line`, `cut_line` and `bad_group_line` are three; each is public, and one line long.
 pub fn end_line(room: &mut [u8], events: u64) -> usize
     ensures { Printed room.old (in_room room.old (end_line events)) result room.new }
 {
@@ -265,8 +268,8 @@ pub fn refused_line(room: &mut [u8], ordinal: u64, refusal: u8, place: u64) -> u
     )
 }
 
-// The line of a message that was read and has no fields of its own. Ordinal, circuit and heading are parameters of three public functions,
-// which keep them.
+// The line of a message that was read and has no fields of its own. Ordinal, circuit and heading stand apart, here and in the two below: a
+// caller has them apart, and the definitions `plain_line`, `acm_line` and `iam_line` take them so.
 pub fn plain_line(room: &mut [u8], ordinal: u64, circuit: u32, heading: u8) -> usize
     ensures { Printed room.old (in_room room.old (plain_line ordinal circuit heading)) result room.new }
 {

@@ -28,8 +28,7 @@ line_of ordinal circuit a = record {
   ordinal = ordinal;
   circuit = circuit;
   refusal = a.refusal;
-  state = a.state;
-  flags = a.flags;
+  held = record { state = a.state; flags = a.flags };
   ind = a.ind;
   first = first_heading a.sends;
   second = second_heading a.sends;

@@ -11,8 +11,7 @@ word_line ordinal circuit w = record {
   ordinal = ordinal;
   circuit = circuit;
   refusal = w % 256;
-  state = w / 0x10000 % 256;
-  flags = w / 0x1000000 % 256;
+  held = record { state = w / 0x10000 % 256; flags = w / 0x1000000 % 256 };
   ind = w / 0x100 % 256;
   first = w / 0x100000000 % 256;
   second = w / 0x10000000000 % 256;

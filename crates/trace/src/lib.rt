@@ -4,7 +4,7 @@
 
 ghost use Rattle.std.specs.Prelude.{◌≡◌, ◌≤◌, List, ℕ, length};
 ghost use Rattle.words.specs.Octets.{over};
-ghost use Rattle.parts.specs.Feed.{answer_of, fed};
+ghost use Rattle.parts.specs.Feed.{answer_of, fed, Within};
 ghost use Rattle.trace.specs.Replay.{replaying, table_octets};
 ghost use Rattle.trace.specs.Way.{word_line, numbers_of};
 
@@ -13,6 +13,9 @@ use codes::Numbers;
 use parts::{Fed, Kind, Running, Stage, Turn};
 use records::{Item, Reader, Recorded};
 use text::Line;
+
+// The octets of the table of 4096 circuits, the most that a group has.
+pub const MOST_TABLE_OCTETS: usize = 40968;
 
 // A trace is one kind of file: its records are events, and the group's table goes along from event to event.
 pub struct Replay;
@@ -32,8 +35,7 @@ fn line_of(ordinal: u64, circuit: u16, answer: u64) -> Line
         ordinal,
         circuit,
         refusal,
-        state: held.state,
-        flags: held.flags,
+        held,
         ind,
         first,
         second,
@@ -81,15 +83,15 @@ pub fn feed(stage: Stage, table: &mut [u8], part: &[u8], room: &mut [u8]) -> Fed
     ensures answers { result ≡ answer_of (fed replaying stage table.old part.now (length room.old)) }
     ensures leaves { table.new ≡ (fed replaying stage table.old part.now (length room.old)).state }
     ensures writes { room.new ≡ over (fed replaying stage table.old part.now (length room.old)).text room.old }
-    ensures within { (result.taken ≤ length part.now) × (result.written ≤ length room.old) }
+    ensures within { Within result part.now room.old }
 {
     parts::feed::<Replay>(table, stage, part, room)
 }
 
-// The octets of the table that the group needs: at most 40,968.
+// The octets of the table that the group needs.
 pub fn table_octets(stage: Stage) -> usize
     ensures value { result ≡ table_octets stage }
-    ensures upper_bound { result ≤ 40968 }
+    ensures upper_bound { result ≤ MOST_TABLE_OCTETS }
 {
     match stage {
         Stage::Runs(r) => layout::table_octets(u32::from(r.group.circuits.min(4096))),

@@ -11,11 +11,7 @@ returns-in-0 c = rw c.in-0.is
 
 pub returns-in-1 : goal.returns-in-1
 unfolding octets_of
-returns-in-1 c = rw c.in-1.is
-
-pub returns-in-2 : goal.returns-in-2
-unfolding octets_of
-returns-in-2 c = rw c.in-2.is
+returns-in-1 c = grind (arith, common_steps)
 
 pub returns-in-3 : goal.returns-in-3
 unfolding octets_of
