@@ -17,6 +17,7 @@ use Rattle.group.specs.Table.{step_in}
 use Rattle.select.specs.Selection.{select_in}
 use Rattle.writer.specs.Writing.{said}
 use Rattle.tup.specs.Entries as Entries
+use Rattle.names.proofs.U8FromRefusal.from.Reads as number_from_refusal
 use Rattle.circuit.proofs.Codes.are_bad.Reads as bad_point_codes
 use Rattle.circuit.proofs.Codes.bad_group.Reads as bad_group
 use Rattle.circuit.proofs.Codes.lowest.Reads as lowest
@@ -110,6 +111,10 @@ Leaves {K} {A} {X} {E} lent C = (κs : K) (a : A κs) (x y : X κs) (s t : E κs
 -- two that are equal to the definition
 once : {A : Type 0} {definition a b : A} → a ≡ definition → b ≡ definition → a ≡ b
 once p q = p ∙ sym q
+
+-- the number of a refusal
+pub of_names : Once number_from_refusal.Learnt
+of_names κs a x y s t = once
 
 pub of_circuit :
     Once bad_point_codes.Learnt
