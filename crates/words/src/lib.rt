@@ -17,6 +17,7 @@ pub fn octet(xs: &[u8], at: usize, k: usize) -> u8
         .unwrap_or(0)
 }
 
+// Puts the octet k behind a place. By index: of what is written through `get_mut` a proof would know nothing once that borrow is over.
 pub fn put_octet(xs: &mut [u8], at: usize, k: usize, value: u8)
     ensures { xs.new ≡ set xs.old (at + k) value }
 {
@@ -72,7 +73,8 @@ fn put_short_word(xs: &mut [u8], at: usize, v: u64)
     }
 }
 
-// Puts a word at a place. Where its octets are all there they are stored at once, which a read soon after does not wait for.
+// Puts a word at a place. Where its octets are all there they are stored at once, which a read soon after does not wait for; not by `get_mut`, for the
+// reason at `put_octet`.
 pub fn put_word(xs: &mut [u8], at: usize, v: u64)
     ensures { xs.new ≡ put_word xs.old at v }
 {

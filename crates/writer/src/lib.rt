@@ -70,7 +70,7 @@ fn put_acm(label: u64, acm: u8, out: &mut [u8])
     requires { 7 ≤ length out.old }
     ensures { out.new ≡ over (acm_octets label acm) out.old }
 {
-    put_plain(label, formats::ACM as u8, out);
+    put_plain(label, names::ACM, out);
     out[6] = acm;
 }
 
@@ -79,13 +79,13 @@ fn put_iam(label: u64, category: u8, word: u16, out: &mut [u8])
     requires { 9 ≤ length out.old }
     ensures { out.new ≡ over (iam_head label category word) out.old }
 {
-    put_plain(label, formats::IAM as u8, out);
+    put_plain(label, names::IAM, out);
     out[6] = category;
     out[7..9].copy_from_slice(&word.to_le_bytes());
 }
 
-// The address signals of an IAM, from octet 9 on. By index: an octet is tied to its two signals by their places alone, which pairs of iterators would
-// have to count as well.
+// The address signals of an IAM, from octet 9 on. By index: of what is written through an adapter of iter_mut, as a zip with the address is, a proof
+// would know nothing once the loop is over.
 #[tactic(auto, using(crate::proofs::Pairs::at_most))]
 fn put_pairs(address: &[u8], out: &mut [u8])
     requires { (above_fifteen address.now ≡ false) × (9 + half (length address.now) ≤ length out.old) }
