@@ -123,7 +123,7 @@ impl Pen<'_> {
         requires { self.old.at + 42 ≤ LINE }
         ensures { Wrote self.old (state_and_flags l) 42 self.new }
     {
-        if l.refusal == Refusal::NoSuchCircuit as u8 {
+        if l.refusal == u8::from(Refusal::NoSuchCircuit) {
             return self.word(b"- - ");
         }
         self.field(u64::from(l.held.state));

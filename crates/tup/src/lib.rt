@@ -1,5 +1,6 @@
 // The entries for a host in C, on numbers and octets, which `tup_c` exports. Every number crosses as 32 bits and is tested inside, so that none is
 // cut to fit. Parameters and answers are single numbers, as include/tup.h declares them; what travels together is put together inside.
+// A refusal goes into them by `as`, since From would go by its octet and then by that octet's number.
 #![tactic(auto)]
 
 ghost use Rattle.std.specs.Prelude.{◌≡◌, ◌<◌, ◌≤◌, length, Ok};
