@@ -1,5 +1,6 @@
 // Reading the table of cases: a line's numbers stand apart by spaces, hexadecimal behind an x; a line with a `#` is a remark.
 
+// By hand: `char::to_digit` takes `A` to `F` for digits too, which are none here.
 fn digit(octet: u8) -> Option<u32> {
     match octet {
         b'0'..=b'9' => Some(u32::from(octet - b'0')),
@@ -8,7 +9,8 @@ fn digit(octet: u8) -> Option<u32> {
     }
 }
 
-// The number of these digits; what is no digit among them is passed over, and of a number too large the upper bits are lost.
+// The number of these digits; what is no digit among them is passed over, and of a number too large the upper bits are lost. So
+// `u32::from_str_radix` is not what is wanted: it refuses both, and in base 10 the letters, which count as 10 to 15 here.
 fn value(base: u32, digits: &[u8]) -> u32 {
     let mut value = 0u32;
     for digit in digits.iter().filter_map(|octet| digit(*octet)) {
@@ -17,7 +19,8 @@ fn value(base: u32, digits: &[u8]) -> u32 {
     value
 }
 
-// The number that a word says; none where it has no digit.
+// The number that a word says: the digits behind its last x, hexadecimal, and 0 where there is none behind it; or, where the word has no x, its
+// decimal digits, and no number where there is none.
 fn number(word: &[u8]) -> Option<u32> {
     match word.iter().rposition(|octet| *octet == b'x') {
         Some(x) => Some(value(16, &word[x + 1..])),

@@ -27,7 +27,7 @@ fn right(case: &[u32]) -> bool {
     }
 }
 
-// Whether a line's case is answered as it says; none where the line has no case. One with too many numbers is not.
+// Whether a line's case is answered as it says; `None` where the line has no case. A case with too many numbers counts as answered otherwise.
 fn line_right(line: &[u8]) -> Option<bool> {
     let mut room = [0u32; NUMBERS];
     match lines::read(line, &mut room) {

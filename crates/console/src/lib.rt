@@ -90,7 +90,8 @@ impl Program for Listing {
     }
 }
 
-// Why a program prints no last line, or more is to be said behind it: the file is text, and what was wanted.
+// What a program says on standard error when its work is over. `Text` comes behind the last line: the file is text, and here is what was wanted.
+// With any other the work failed, and the last line is missing or not whole.
 #[derive(Debug, Drop)]
 enum Trouble {
     Read(io::Error),
@@ -152,8 +153,8 @@ impl Unread {
         self.at += n;
     }
 
-    // Reads more behind what is not taken yet, and answers whether there was more. A buffer that is full of what cannot be taken is that of a
-    // text with no further ordinal.
+    // Reads more behind what is not taken yet, and answers whether there was more. Where nothing was taken of a full buffer, there is no further
+    // ordinal: the buffer is longer than any record, so with an ordinal the first one would have been taken.
     fn read(&mut self, input: &mut impl Read) -> Result<bool, Trouble> {
         self.have = parts::keep(&mut self.buffer, self.at, self.have);
         self.at = 0;

@@ -1,6 +1,6 @@
 // The lines of a replay and of a list of messages, written into lent room. Each public function writes its line at the room's start and
-// answers how many octets that took; where the room has fewer than `LINE` octets, it writes nothing and answers 0, as `Printed` has it, which
-// is in the contracts of all of them.
+// answers how many octets that took; where the room has fewer than `LINE` octets, it writes nothing and answers 0. That is `Printed` of
+// `in_room`, the contract of all nine: the answer is the length of the text, which is then empty.
 // Digits are made by hand: a line by `write!` takes more than twice the instructions.
 #![tactic(auto)]
 
@@ -22,8 +22,8 @@ pub const LINE: usize = 132;
 // The most address signals that a message can have.
 const MOST_SIGNALS: usize = 15;
 
-// What an event's line says. A heading of 0 stands for none. `event_line` has a line for any octets, also those that are no refusal, indication or
-// heading, so these stay numbers.
+// What an event's line says. The refusal, the indication and the two headings, 0 for none, are octets and no enums: `event_line` has a line for
+// any octets, also for those that name no refusal, indication or heading.
 #[derive(Clone, Copy, Debug, PartialEq, Eq)]
 pub struct Line {
     pub ordinal: u64,

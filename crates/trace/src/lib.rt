@@ -14,7 +14,10 @@ use parts::{Fed, Kind, Running, Stage, Turn};
 use records::{Item, Reader, Recorded};
 use text::Line;
 
-// The octets of the table of 4096 circuits, the most that a group has.
+// The most circuits that a group has, and the octets of their table. For circuit and layout the definitions `bad_group` and `bad_length` hold the
+// first, each in its own file.
+const MOST_CIRCUITS: u16 = 4096;
+
 pub const MOST_TABLE_OCTETS: usize = 40968;
 
 // A trace is one kind of file: its records are events, and the group's table goes along from event to event.
@@ -94,7 +97,7 @@ pub fn table_octets(stage: Stage) -> usize
     ensures upper_bound { result ≤ MOST_TABLE_OCTETS }
 {
     match stage {
-        Stage::Runs(r) => layout::table_octets(u32::from(r.group.circuits.min(4096))),
+        Stage::Runs(r) => layout::table_octets(u32::from(r.group.circuits.min(MOST_CIRCUITS))),
         _ => 0,
     }
 }
