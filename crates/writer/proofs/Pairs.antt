@@ -52,8 +52,8 @@ module _ (cs buffer : List ℕ) (room : 9 + half (length cs) ≤ length buffer) 
         let n : half (length cs) ≡ j + 1 = omega arith in
         rw (n, l, ← ends, is, ← last_at cs j (omega arith)) (paste_more buffer 9 (pairs cs) j 0 (omega arith) (omega (arith, length_pairs cs)))
 
-    pub pairs_even : (length cs % 2 ≡ 1 → ⊥) → now ≡ paste buffer 9 (pairs cs) (half (length cs))
-    pairs_even o = let n : j ≡ half (length cs) = omega arith in is ∙ ap (paste buffer 9 (pairs cs)) n
+  pub pairs_even : j ≤ length cs / 2 → length cs / 2 ≤ j → (length cs % 2 ≡ 1 → ⊥) → now ≡ paste buffer 9 (pairs cs) (half (length cs))
+  pairs_even a b o = let n : j ≡ half (length cs) = omega arith in is ∙ ap (paste buffer 9 (pairs cs)) n
 
 -- none of the signals is above 15
 pub at_most : (s : List ℕ) (i : ℕ) → above_fifteen s ≡ false → i < length s → get_or s i 0 ≤ 15

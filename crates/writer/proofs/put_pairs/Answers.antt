@@ -11,4 +11,4 @@ pub returns-then-n-eq1 : goal.returns-then-n-eq1
 returns-then-n-eq1 c = pairs_odd c.args.address.now c.args.out.now c.requires.1 _ _ c.loop-j.invariant (omega arith) c.if-n-eq1.true
 
 pub returns-else-n-eq1 : goal.returns-else-n-eq1
-returns-else-n-eq1 c = pairs_even c.args.address.now c.args.out.now c.requires.1 _ _ c.loop-j.invariant (omega arith) c.if-n-eq1.false
+returns-else-n-eq1 c = pairs_even c.args.address.now c.args.out.now c.requires.1 _ _ c.loop-j.invariant (omega arith) (omega arith) c.if-n-eq1.false
