@@ -17,6 +17,7 @@ pub struct Fields {
 }
 
 // An answer by its fields: all are numbers, since the answer is what `tup_step` gives a host in C, with 0 for no refusal and for no signal.
+// Any numbers may be passed.
 pub fn answer(refusal: u8, ind: u8, held: Held, first: u8, second: u8) -> u64
     ensures { result ≡ word refusal ind held.state held.flags first second }
 {
@@ -63,6 +64,7 @@ pub fn fields_of(answer: u64) -> Fields
     }
 }
 
+// A number, 0 where nothing was refused, as in the answer.
 pub fn refusal_of(answer: u64) -> u8
     ensures { result ≡ answer % 256 }
 {

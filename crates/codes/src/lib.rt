@@ -50,7 +50,7 @@ pub fn failure_of(heading: u32) -> Option<Failure>
     }
 }
 
-// The signal that has the heading, an ACM with the octet given.
+// The signal that has the heading, an ACM with the octet given. No TryFrom, since the octet comes beside the heading.
 pub fn signal_of(heading: u32, octet: u8) -> Option<Signal>
     ensures { result ≡ signal_of heading octet }
 {

@@ -261,7 +261,8 @@ fn run<P: Program, E: Print>(
     }
 }
 
-// Does a program's work, and says what went wrong. Any number may be given for what the program does: all but LISTING replay.
+// Does a program's work, and says what went wrong. Any number may be given for what the program does: all but LISTING replay. The number is
+// looked at here alone.
 pub fn start(rt: &HostRuntime, what: u8, name: &[u8], help: &[u8]) {
     let told = Complaints {
         err: &rt.stderr(),

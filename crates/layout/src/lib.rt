@@ -1,5 +1,6 @@
 // Where things lie in a lent table of octets: first the counter of releases, eight octets; then a record to each circuit, ten octets each: the
 // state, the flags and the release rank of eight. Record i is circuit i; counter and ranks have their lowest octet first.
+// Octets and no array of structs: they are lent by a host in C.
 #![tactic(auto)]
 
 ghost use Rattle.std.specs.Prelude.{◌≡◌, ◌+◌, ◌≤◌, ltb};

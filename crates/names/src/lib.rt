@@ -31,7 +31,7 @@ pub const IN_FAILED: u8 = 11;
 
 pub const AWAITING_RESET: u8 = 12;
 
-// What a flag is worth in the octet of flags.
+// What a flag is worth in the octet of flags, which a table holds and an answer shows: numbers, as states are.
 pub const OWN_BLOCK: u8 = 1;
 
 pub const FAR_BLOCK: u8 = 2;

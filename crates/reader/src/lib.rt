@@ -34,7 +34,7 @@ pub struct Fields {
 }
 
 // What a message says. The address stands beside the signal and not in it (docs/DECISIONS.md, D102), and so do the other fields that only an
-// IAM has, 0 in any other message, as in the definition `message_of`.
+// IAM has, 0 in any other message, as in the definition `message_of`. Count and array are as in `Fields`.
 #[derive(Clone, Copy, Debug, PartialEq, Eq)]
 pub struct Message {
     pub circuit: Cic,

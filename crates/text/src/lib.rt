@@ -42,6 +42,7 @@ struct Pen<'a> {
     at: usize,
 }
 
+// Each asks for the room of its own text, so no one bound serves all.
 impl Pen<'_> {
     fn put(&mut self, octet: u8)
         requires { self.old.at + 1 ≤ LINE }
@@ -250,7 +251,7 @@ pub fn bad_group_line(room: &mut [u8]) -> usize
     written(room, |pen| pen.word(b"bad group\n"))
 }
 
-// The line of a message that was refused.
+// The line of a message that was refused. The refusal is an octet and no `Refusal`, as in `Line`: there is a line for any.
 pub fn refused_line(room: &mut [u8], ordinal: u64, refusal: u8, place: u64) -> usize
     ensures { Printed room.old (in_room room.old (refused_line ordinal refusal place)) result room.new }
 {
