@@ -1,6 +1,6 @@
 -- No two refusals have one number, and none has 0.
 -- Assumes nothing.
-use Rattle.std.proofs.Common.{◌≡◌, refl, sym, ap, ◌∙◌, ℕ, cond, Option, Some, None}
+use Rattle.std.proofs.Common.{◌≡◌, refl, sym, ap, ◌∙◌, ℕ, cond}
 use lib.Dec.{eqb}
 use Rattle.names.specs.declared.Refusal.{Refusal}
 use Rattle.names.specs.declared.Refusal.TheVariants.{NoSuchGroup, NoSuchCircuit, NoSuchEvent, FarBlocked, CommandNotAllowed, TimerNotRunning, WrongLength, WrongLabel, NoSuchHeading, WrongAddress, OutputTooShort, BadRecord, CounterFull, NoCircuit, ShortNumber}
