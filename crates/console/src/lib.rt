@@ -30,6 +30,9 @@ trait Program: Drop {
     // What it is to be fed, as whoever feeds it text is told.
     const WANTS: &'static [u8];
 
+    // The program before its file.
+    fn new() -> Self;
+
     // Takes what can be taken of a part of the file, and writes its lines into the room.
     fn feed(&mut self, stage: Stage, part: &[u8], room: &mut [u8]) -> Fed
         ensures { Within result part.now room.old };
@@ -39,14 +42,6 @@ trait Program: Drop {
 #[derive(Drop)]
 struct Replay {
     table: [u8; trace::MOST_TABLE_OCTETS],
-}
-
-impl Replay {
-    fn new() -> Replay {
-        Replay {
-            table: [0u8; trace::MOST_TABLE_OCTETS],
-        }
-    }
 }
 
 impl Program for Replay {
@@ -62,6 +57,12 @@ impl Program for Replay {
     ];
 
     const WANTS: &'static [u8] = b"a trace is";
+
+    fn new() -> Replay {
+        Replay {
+            table: [0u8; trace::MOST_TABLE_OCTETS],
+        }
+    }
 
     fn feed(&mut self, stage: Stage, part: &[u8], room: &mut [u8]) -> Fed {
         let octets = trace::table_octets(stage);
@@ -84,6 +85,10 @@ impl Program for Listing {
     ];
 
     const WANTS: &'static [u8] = b"messages are";
+
+    fn new() -> Listing {
+        Listing
+    }
 
     fn feed(&mut self, stage: Stage, part: &[u8], room: &mut [u8]) -> Fed {
         messages::feed(stage, part, room)
@@ -218,11 +223,8 @@ fn is_text(octet: u8) -> bool {
 
 // Writes the lines of a file, and its last line. A file in its readable form has no group where its octets should begin: whoever feeds it by
 // mistake is told what is missing.
-fn work<P: Program, O: Print>(
-    mut program: P,
-    lines: &Lines<'_, O>,
-    input: &mut impl Read,
-) -> Result<(), Trouble> {
+fn work<P: Program, O: Print>(lines: &Lines<'_, O>, input: &mut impl Read) -> Result<(), Trouble> {
+    let mut program = P::new();
     let mut unread = Unread::new();
     let mut room = [0u8; 65536];
     let stage = turns(&mut program, lines, input, &mut unread, &mut room)?;
@@ -239,7 +241,6 @@ fn work<P: Program, O: Print>(
 fn run<P: Program, E: Print>(
     rt: &HostRuntime,
     told: &Complaints<'_, E>,
-    program: P,
     help: &[u8],
 ) -> Result<(), Trouble> {
     let out = rt.stdout();
@@ -254,10 +255,10 @@ fn run<P: Program, E: Print>(
     };
     match asked.source {
         Some(Source::File(i)) => match arguments::open(rt, told, i) {
-            Some(mut input) => work(program, &lines, &mut input),
+            Some(mut input) => work::<P, _>(&lines, &mut input),
             None => Ok(()),
         },
-        Some(Source::Input) | None => work(program, &lines, &mut rt.stdin()),
+        Some(Source::Input) | None => work::<P, _>(&lines, &mut rt.stdin()),
     }
 }
 
@@ -269,8 +270,8 @@ pub fn start(rt: &HostRuntime, what: u8, name: &[u8], help: &[u8]) {
         name,
     };
     let done = match what {
-        LISTING => run(rt, &told, Listing, help),
-        _ => run(rt, &told, Replay::new(), help),
+        LISTING => run::<Listing, _>(rt, &told, help),
+        _ => run::<Replay, _>(rt, &told, help),
     };
     if let Err(trouble) = done {
         trouble.tell(&told);

@@ -1,6 +1,6 @@
 // The words of the named form: what a column of the lines holds, and the words for its numbers.
+use std::io;
 use std::io::Write;
-use std::{io, str};
 
 // What a column of the lines holds: numbers that have no words, or those of refusals, states, flags, indications or headings. All are
 // decimal but for headings, which are hexadecimal.
@@ -107,11 +107,25 @@ fn write_flags(flags: u8, room: &mut impl Write) -> io::Result<()> {
     Ok(())
 }
 
+// What a digit is worth; none where the octet is no digit of the base.
+fn value(octet: u8, base: u8) -> Option<u8> {
+    let value = match octet {
+        b'0'..=b'9' => octet - b'0',
+        b'a'..=b'f' => octet - b'a' + 10,
+        _ => return None,
+    };
+    (value < base).then_some(value)
+}
+
 impl Column {
-    // The number that digits say; none where they are none, or say more than an octet holds.
+    // The number that digits say; none where they are none, or say more than an octet holds. Digit by digit: `u8::from_str_radix` would have the
+    // octets tested for text first.
     fn number(self, digits: &[u8]) -> Option<u8> {
         let base = if self == Column::Heading { 16 } else { 10 };
-        u8::from_str_radix(str::from_utf8(digits).ok()?, base).ok()
+        let (&first, rest) = digits.split_first()?;
+        rest.iter().try_fold(value(first, base)?, |n, &octet| {
+            n.checked_mul(base)?.checked_add(value(octet, base)?)
+        })
     }
 
     // The word for a number that has one of its own.

@@ -21,6 +21,10 @@ fn write_line(columns: &[Column], line: &[u8], room: &mut impl Write) -> io::Res
             room.write_all(b" ")?;
         }
         let column = columns.get(i).copied().unwrap_or(Column::Plain);
+        if column == Column::Plain {
+            room.write_all(numbers)?;
+            continue;
+        }
         for (j, digits) in numbers.split(|octet| *octet == b',').enumerate() {
             if j > 0 {
                 room.write_all(b",")?;

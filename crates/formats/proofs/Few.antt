@@ -1,9 +1,9 @@
 -- Short international numbers: how many signals are counted, and by what a number is short or not.
 -- Assumes nothing.
 use mathlib.Core.Path.{◌≡◌, refl, sym, ap, ◌∙◌}
-use mathlib.Core.Bool.{Bool, true, false, cond, not, ◌&&◌, ◌||◌, and-false}
+use mathlib.Core.Bool.{Bool, true, false, cond, not, ◌&&◌, ◌||◌, and-true, and-false}
 use mathlib.Core.List.{List, [], ◌∷◌}
-use Prim.Native.Nat.{ℕ, suc, ◌+◌, ◌<◌, ◌≤◌, min}
+use Prim.Native.Nat.{ℕ, suc, ◌+◌, ◌%◌, ◌<◌, ◌≤◌, min}
 use native.Mathlib.Numerals.{add-one}
 use native.Mathlib.Omega.{arith}
 use borrow.Author.Tests.{ltb-true, ltb-false, lt-ltb, le-ltb, eq-eqb, ne_eqb}
@@ -72,12 +72,22 @@ by_twelve (code ∷ rest) some e = sym (ap (λ (b : Bool). b || eqb code 12) (ne
 -- WHETHER A NUMBER IS SHORT
 
 module _ (indicators : ℕ) (s : List ℕ) where
-  -- by its first signal, or by how many there are
+  -- by the nature of address alone, by its first signal, or by how many there are
+  pub otherwise : (indicators % 4 ≡ 3 → ⊥) → short indicators s ≡ false
+  unfolding short
+  otherwise h = ap (λ (b : Bool). b && (ltb (besides_st s) 4 && not (to_operator s))) (ne_eqb _ _ h)
+
   pub exempt : to_operator s ≡ true → short indicators s ≡ false
   unfolding short
   exempt e =
       ap (λ (b : Bool). international indicators && (ltb (besides_st s) 4 && not b)) e ∙ ap (λ (b : Bool). international indicators && b) (and-false (ltb (besides_st s) 4))
       ∙ and-false (international indicators)
+
+  pub by_count : indicators % 4 ≡ 3 → to_operator s ≡ false → ltb (besides_st s) 4 ≡ short indicators s
+  unfolding short
+  by_count h e =
+      sym (ap (λ (b : Bool). international indicators && (ltb (besides_st s) 4 && not b)) e ∙ ap (λ (b : Bool). b && (ltb (besides_st s) 4 && true)) (eq-eqb _ _ h)
+      ∙ and-true (ltb (besides_st s) 4))
 
   pub long_enough : 4 ≤ besides_st s → short indicators s ≡ false
   unfolding short

@@ -25,6 +25,10 @@ in_set h = eqb (group_of (h % 16) / 2 ^ (h / 16) % 2) 1
 pub by_set : (h : ℕ) → h ≤ 255 → in_set h ≡ listed h
 by_set h low = alike_same _ _ (at_below 256 (λ h. alike (in_set h) (listed h)) tt h (omega arith))
 
+-- every message has label and heading
+pub six_or_more : (h : ℕ) → 6 ≤ fixed_length h
+six_or_more h = omega arith
+
 -- what is given only where a test holds is missing where it does not
 pub missing : (b : Bool) (n : ℕ) → cond b (Some n) None ≡ None → b ≡ false
 missing true n e = absurd (none-some n (sym e))

@@ -1,3 +1,4 @@
+pub mod Addresses
 pub mod Signals
 pub mod Few
 pub mod Lengths

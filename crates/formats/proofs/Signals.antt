@@ -4,14 +4,31 @@ use mathlib.Core.Path.{◌≡◌, refl, sym, ap, ap₂, ◌∙◌}
 use mathlib.Core.Bool.{Bool, true, false, cond, ◌||◌, or-true}
 use mathlib.Core.List.{List, [], ◌∷◌}
 use Prim.Native.Nat.compare
-use Prim.Native.Nat.{ℕ, zero, suc, ◌<◌, ◌≤◌}
+use Prim.Native.Nat.{ℕ, zero, suc, ◌+◌, ◌-◌, ◌<◌, ◌≤◌}
+use native.Mathlib.Numerals.{add-one}
 use native.Mathlib.Omega.{arith}
-use borrow.Author.Tests.{ltb-false, lt-ltb, le-ltb}
+use borrow.Author.Tests.{ltb-true, ltb-false, lt-ltb, le-ltb}
 use lib.Dec.{ltb, is_le}
-use lib.ListN.{length, get_or}
+use lib.ListN.{length, get_or, drop, length-drop}
+use lib.Seq.{drop-cons}
 use Rattle.std.specs.Bool.{MatchBool}
 use Rattle.std.specs.List.{AllWithin, HoldsAt}
 use Rattle.formats.specs.Octets.{some_signal, before_signal, above_fifteen}
+
+-- from a place on: whether more stand behind it, and how many signals stand before the first that a test fits
+more : (s : List ℕ) (i : ℕ) → ltb 0 (length (drop (suc i) s)) ≡ ltb (i + 1) (length s)
+more s i = ap (ltb 0) (length-drop (suc i) s) ∙ go (ltb (i + 1) (length s)) refl
+  where
+    go : (b : Bool) → ltb (i + 1) (length s) ≡ b → ltb 0 (length s - suc i) ≡ ltb (i + 1) (length s)
+    go true e = let h : i + 1 < length s = ltb-true _ _ e in lt-ltb 0 (length s - suc i) (omega arith) ∙ sym e
+    go false e = let h : length s ≤ i + 1 = ltb-false _ _ e in le-ltb 0 (length s - suc i) (omega arith) ∙ sym e
+
+module _ (test : ℕ → Bool → Bool) (s : List ℕ) (i : ℕ) where
+  abbrev fitting : Bool → ℕ
+  fitting b = cond b 0 (suc (before_signal test (drop (i + 1) s)))
+
+  pub next : i < length s → before_signal test (drop i s) ≡ fitting (test (get_or s i 0) (ltb (i + 1) (length s)))
+  next h = rw (drop-cons s i 0 h, more s i, add-one i)
 
 -- signal by signal: no signal is one that the test fits, and none is of those before the first
 shifted : (a b : ℕ) → ltb (suc a) (suc b) ≡ ltb a b

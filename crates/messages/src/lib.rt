@@ -74,7 +74,12 @@ impl Kind for Listing {
 
     ghost making = { per_message };
 
+    fn is_lawful() {}
+
     fn turn(_lent: &mut [u8], r: Running, part: &[u8], room: &mut [u8]) -> Option<Turn> {
+        if room.len() < text::LINE {
+            return None;
+        }
         let octets = whole_message(part)?;
         let written = message_line(room, r.next, r.group, octets);
         Some(Turn {

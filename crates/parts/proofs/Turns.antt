@@ -8,14 +8,14 @@ use native.Mathlib.Omega.{arith}
 use lib.Dec.{eqb, leb}
 use lib.ListN.{length}
 use Rattle.std.specs.Prelude.{Option, Some, None}
-use borrow.Author.Tests.{leb-true, ltb-true, ne_eqb, eqb-true, eqb-false}
+use borrow.Author.Tests.{leb-true, ltb-true, le-leb, lt-leb, ne_eqb, eqb-true, eqb-false}
 use Rattle.circuit.proofs.Every.{both_hold}
 use Rattle.words.specs.Words.{largest}
 use Rattle.text.proofs.Numbers.{by_test}
 use Rattle.text.specs.Writing.{line_room}
 use Rattle.parts.specs.declared.Running.{Running}
 use Rattle.parts.specs.Whole.{Ahead, Takes, NoRecord, Partial, AtEnd, onward}
-use Rattle.parts.specs.Feed.{Share, no_share, may_go, share_of, share_at}
+use Rattle.parts.specs.Feed.{Share, no_share, may_go, share_of, share_in_room, share_at}
 use Rattle.parts.specs.declared.Turn.{Turn}
 use Rattle.parts.specs.Way.{turn_of, Lands}
 
@@ -61,7 +61,19 @@ module _ {T : Type 0} (h : Share T) where
       let k : t ≡ record { taken = h.taken; written = length h.text } = cc in
       rw k (record { some = eqb-false _ _ z; taken = refl; written = refl }))
 
+-- whether a room has the octets of any line
+module _ {T : Type 0} (a : Ahead T) (t : T) (n : ℕ) where
+  pub room_for : line_room ≤ n → share_in_room a t n ≡ share_of a t
+  room_for h = rw (le-leb line_room n h)
+
+  pub no_room_for : n < line_room → share_in_room a t n ≡ no_share t
+  no_room_for h = rw (lt-leb line_room n h)
+
 module _ {T : Type 0} (a : Ahead T) (r : Running) (t : T) (n : ℕ) where
+  -- what may go has room enough
+  pub room_enough : may_go r n ≡ true → share_in_room a t n ≡ share_of a t
+  room_enough e = room_for a t n (room_there r n e)
+
   pub may_take : may_go r n ≡ true → share_at a r t n ≡ share_of a t
   unfolding share_at
   may_take e = rw e

@@ -61,6 +61,10 @@ module _ {T : Type 0} where
   share_of Partial state = no_share state
   share_of AtEnd state = no_share state
 
+  -- the share of what stands ahead where the room has the octets of any line, else none
+  abbrev pub share_in_room : Ahead T → T → ℕ → Share T
+  share_in_room a state room = cond (leb line_room room) (share_of a state) (no_share state)
+
   -- what stands ahead is taken where it may go
   unfoldable pub share_at : Ahead T → Running → T → ℕ → Share T
   share_at a r state room = cond (may_go r room) (share_of a state) (no_share state)

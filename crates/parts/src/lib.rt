@@ -8,7 +8,7 @@ ghost use Rattle.words.specs.Octets.{over};
 ghost use Rattle.words.specs.Words.{largest};
 ghost use Rattle.parts.specs.declared.Running.{Running};
 ghost use Rattle.parts.specs.Whole.{Making, Lawful, no_state, onward};
-ghost use Rattle.parts.specs.Feed.{may_go, starts_none, share_of, share, stays, begins, fed, answer_of, is_over, last_line, kept, Within};
+ghost use Rattle.parts.specs.Feed.{may_go, starts_none, share_in_room, share, stays, begins, fed, answer_of, is_over, last_line, kept, Within};
 ghost use Rattle.parts.specs.Way.{Lands, Ran};
 
 use records::Group;
@@ -48,8 +48,7 @@ pub struct Fed {
     pub stage: Stage,
 }
 
-// A kind of file. What goes along from record to record lies in lent octets, which a kind that needs nothing leaves alone. What else must hold of a
-// kind, `Lawful`, is required by `feed` and no law of the trait, since the laws of a trait may not cite a crate's proofs.
+// A kind of file. What goes along from record to record lies in lent octets, which a kind that needs nothing leaves alone.
 pub trait Kind {
     ghost State: { Type 0 };
 
@@ -58,10 +57,14 @@ pub trait Kind {
 
     ghost making: { Making State };
 
-    // The record at the start of the part, where one stands there whole, whose line is written.
+    // The kind is `Lawful`, so that a run ends and stays within its part. This is the contract of a function that does nothing, and no law of the
+    // trait, since what an impl gives for a law may not cite its crate's proofs.
+    fn is_lawful()
+        ensures { Lawful making };
+
+    // The record at the start of the part, where one stands there whole and the room has a line's octets; its line is written.
     fn turn(lent: &mut [u8], r: Running, part: &[u8], room: &mut [u8]) -> Option<Turn>
-        requires { 132 ≤ length room.old }
-        ensures { Lands (share_of (making.ahead r (state_in lent.old) part.now) (state_in lent.old)) room.old result (state_in lent.new) room.new };
+        ensures { Lands (share_in_room (making.ahead r (state_in lent.old) part.now) (state_in lent.old) (length room.old)) room.old result (state_in lent.new) room.new };
 
     // Whether the part goes on with what is no record, so that the file is cut there.
     fn starts_none(part: &[u8]) -> bool
@@ -170,9 +173,9 @@ fn one<K: Kind>(lent: &mut [u8], r: Running, part: &[u8], room: &mut [u8]) -> Op
 
 // Record after record, until none can be taken.
 fn run<K: Kind>(lent: &mut [u8], r: Running, part: &[u8], room: &mut [u8]) -> Fed
-    requires { Lawful K.making }
     ensures { Ran K.making r (K.state_in lent.old) part.now room.old result (K.state_in lent.new) room.new }
 {
+    K::is_lawful();
     let mut here = r;
     let mut at = 0;
     let mut out = 0;
@@ -195,7 +198,6 @@ fn run<K: Kind>(lent: &mut [u8], r: Running, part: &[u8], room: &mut [u8]) -> Fe
 
 // The text goes on with the next part of its file, which starts at the first octet that was not taken yet.
 pub fn feed<K: Kind>(lent: &mut [u8], stage: Stage, part: &[u8], room: &mut [u8]) -> Fed
-    requires { Lawful K.making }
     ensures answers { result ≡ answer_of (fed K.making stage (K.state_in lent.old) part.now (length room.old)) }
     ensures leaves { K.state_in lent.new ≡ (fed K.making stage (K.state_in lent.old) part.now (length room.old)).state }
     ensures writes { room.new ≡ over (fed K.making stage (K.state_in lent.old) part.now (length room.old)).text room.old }

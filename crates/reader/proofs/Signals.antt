@@ -44,6 +44,18 @@ reads xs i few h codes code e p =
     ∙ paste-suc no_codes 0 (halves os) i 0 (rw (zero-add i) few) (omega (arith, length_halves os))
     ∙ ap (paste no_codes 0 (halves os)) (sym (add-one i))
 
+-- or the two of an octet, where it has read an even number of them
+pub reads_two : (xs : List ℕ) (i : ℕ) → i % 2 ≡ 0 → i + 1 < 15 → 9 + i / 2 < length xs → (codes : List ℕ) (earlier later : ℕ)
+    → earlier ≡ cond (eqb (i % 2) 0) (get_or xs (9 + i / 2) 0 % 16) (get_or xs (9 + i / 2) 0 / 16)
+    → later ≡ cond (eqb ((i + 1) % 2) 0) (get_or xs (9 + i / 2) 0 % 16) (get_or xs (9 + i / 2) 0 / 16)
+    → codes ≡ paste no_codes 0 (halves (drop 9 xs)) i
+    → set (set codes i earlier) (i + 1) later ≡ paste no_codes 0 (halves (drop 9 xs)) (i + 2)
+reads_two xs i even few h codes earlier later e l p =
+    let same : (i + 1) / 2 ≡ i / 2 = omega (arith, even) in
+    let two : i + 1 + 1 ≡ i + 2 = omega arith in
+    reads xs (i + 1) few (rw same h) (set codes i earlier) later (rw same l) (reads xs i (omega arith) h codes earlier e p)
+    ∙ ap (paste no_codes 0 (halves (drop 9 xs))) two
+
 -- and when it has read them all
 pub read_all : (xs : List ℕ) (n i : ℕ) → 9 + half n ≤ length xs → i ≤ n → n ≤ i → (codes : List ℕ) → codes ≡ paste no_codes 0 (halves (drop 9 xs)) i
     → codes ≡ over (take n (halves (drop 9 xs))) no_codes

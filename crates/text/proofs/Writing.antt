@@ -2,11 +2,11 @@
 -- Assumes nothing.
 use mathlib.Core.Path.{◌≡◌, refl, sym, ap, ◌∙◌}
 use mathlib.Core.List.{List, [], ◌∷◌, ◌++◌}
-use Prim.Native.Nat.{ℕ, suc, ◌+◌, ◌/◌, ◌%◌, ◌<◌, ◌≤◌}
+use Prim.Native.Nat.{ℕ, zero, suc, ◌+◌, ◌/◌, ◌%◌, ◌<◌, ◌≤◌}
 use native.Mathlib.Nat.{add_assoc, add-suc, suc-add, add-zero, zero-add}
 use native.Mathlib.Omega.{arith}
 use lib.Dec.{ltb}
-use lib.ListN.{length, get_or, set, take, drop, length-append}
+use lib.ListN.{length, get_or, set, take, drop, length-append, length-map}
 use lib.Seq.{sets, sets-eq, take-length, length-take-le}
 use borrow.Rule.Slice.PartMut.{put_mid}
 use Rattle.std.proofs.lemmas.Slice.{put_mid-paste}
@@ -72,3 +72,21 @@ no_text b = by_test (ltb (length b) line_room) (λ e. rw e (record { count = ref
 pub signals_more : (address : List ℕ) (i : ℕ) → i < length address → signals (take (i + 1) address) ≡ signals (take i address) ++ (hex_digit (get_or address i 0 % 16) ∷ [])
 unfolding signals
 signals_more address i h = rw (take_more address i 0 h, map-append) refl
+
+-- an address as text has a digit for each signal
+pub signals_length : (address : List ℕ) → length (signals address) ≡ length address
+unfolding signals
+signals_length address = length-map address (λ d. hex_digit (d % 16))
+
+pub signal_at : (address : List ℕ) (i : ℕ) → i < length address → get_or (signals address) i 0 ≡ hex_digit (get_or address i 0 % 16)
+unfolding signals
+signal_at [] i h = absurd (omega arith)
+signal_at (d ∷ address) zero h = refl
+signal_at (d ∷ address) (suc i) h = signal_at address i (omega arith)
+
+-- the first i digits of an address stand there, and one more does
+pub digit_more : (b address : List ℕ) (at i : ℕ) → i < length address → set (sets b at (signals (take i address))) (at + i) (hex_digit (get_or address i 0 % 16)) ≡ sets b at (signals (take (i + 1) address))
+digit_more b address at i h =
+    let e : length (signals (take i address)) ≡ i = signals_length (take i address) ∙ length-take-le i address (omega arith) in
+    rw (signals_more address i h, ← sets_more (signals (take i address)) (hex_digit (get_or address i 0 % 16) ∷ []) b at)
+    (ap (λ (k : ℕ). set (sets b at (signals (take i address))) (at + k) (hex_digit (get_or address i 0 % 16))) (sym e))

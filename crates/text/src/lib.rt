@@ -148,9 +148,18 @@ impl Pen<'_> {
         requires { self.old.at + length address.now ≤ LINE }
         ensures { Wrote self.old (signals address.now) (length address.now) self.new }
     {
-        for &signal in address {
-            self.put(hex_digit(signal % 16));
-        }
+        signal_digits(self.room, self.at, address);
+        self.at += address.len();
+    }
+}
+
+// The digits of address signals. Room and place travel apart, as in `digits`.
+fn signal_digits(room: &mut [u8; LINE], at: usize, address: &[u8])
+    requires { at + length address.now ≤ LINE }
+    ensures { room.new ≡ sets room.old at (signals address.now) }
+{
+    for (i, &signal) in address.iter().enumerate() {
+        room[at + i] = hex_digit(signal % 16);
     }
 }
 

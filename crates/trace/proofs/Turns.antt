@@ -3,7 +3,7 @@
 use mathlib.Core.Path.{◌≡◌, refl, sym, ◌∙◌}
 use mathlib.Core.Bool.{Bool, true, false, cond}
 use mathlib.Core.List.{List}
-use Prim.Native.Nat.{ℕ, ◌≤◌}
+use Prim.Native.Nat.{ℕ, ◌-◌, ◌≤◌}
 use native.Mathlib.Nat.{zero-add}
 use native.Mathlib.Omega.{arith}
 use Rattle.std.specs.Prelude.{Some, None}
@@ -11,6 +11,7 @@ use Rattle.std.proofs.lemmas.Option.{none-some}
 use lib.ListN.{length}
 use lib.Dec.{eqb}
 use borrow.Author.Tests.{le-ltb, eqb-true}
+use borrow.Rule.Slice.PartMut.{mid_of, put_mid}
 use Rattle.codes.specs.Numbers.{event_of}
 use Rattle.answers.specs.Answers.{Answer, Unpacked}
 use Rattle.group.specs.Table.{Step, step_in}
@@ -24,11 +25,14 @@ use Rattle.records.specs.Records.{octets_of, item, behind}
 use Rattle.records.proofs.Items.{whole, behind_event}
 use Rattle.parts.specs.declared.Running.{Running}
 use Rattle.parts.specs.declared.Turn.{Turn}
-use Rattle.parts.specs.Feed.{Share, share_of}
-use Rattle.parts.specs.Way.{Lands}
+use Rattle.parts.specs.declared.Stage.TheVariants.{Runs, Cut}
+use Rattle.parts.specs.Feed.{Share, share_of, share, starts_none}
+use Rattle.parts.specs.Way.{Lands, Ran}
 use Rattle.parts.proofs.Turns.{some_turn}
-use Rattle.trace.specs.Replay.{happens, line_of, event_text, ahead_of}
+use Rattle.parts.proofs.Loop.{Sofar, back_stopped}
+use Rattle.trace.specs.Replay.{happens, line_of, event_text, ahead_of, replaying}
 use Rattle.trace.specs.Way.{word_line}
+use Rattle.trace.proofs.Events.{lawful}
 
 -- the line of the number that an answer is
 of_word : (ordinal circuit w : ℕ) (a : Answer) → Unpacked w a → word_line ordinal circuit w ≡ line_of ordinal circuit a
@@ -59,9 +63,9 @@ module _ (r : Running) (table part : List ℕ) (e : Recorded) (here : item part 
       let some : had.taken ≡ 0 → ⊥ = λ z. omega (arith, (whole part e here).some) in
       rw here (record { answers = rw (p.count, is, further q) (sym (some_turn had some)); leaves = t; writes = rw (p.room, is) })
 
--- a turn that takes nothing ends the run: there was nothing to take, and the table and the room are as that leaves them
-pub turn_over : (h : Share (List ℕ)) (room table' room' : List ℕ) → Lands h room None table' room' → (h.taken ≡ 0) × (table' ≡ h.state) × (room' ≡ over h.text room)
-turn_over h room table' room' l = (go (eqb h.taken 0) refl l.answers, l.leaves, l.writes)
+-- a turn that takes nothing had nothing to take, and the table and the room are as that leaves them
+pub nothing_taken : (h : Share (List ℕ)) (room table' room' : List ℕ) → Lands h room None table' room' → (h.taken ≡ 0) × (table' ≡ h.state) × (room' ≡ over h.text room)
+nothing_taken h room table' room' l = (go (eqb h.taken 0) refl l.answers, l.leaves, l.writes)
   where
     had_turn : Turn
     had_turn = record { taken = h.taken; written = length h.text }
@@ -69,3 +73,16 @@ turn_over h room table' room' l = (go (eqb h.taken 0) refl l.answers, l.leaves, 
     go : (b : Bool) → eqb h.taken 0 ≡ b → None ≡ cond b None (Some had_turn) → h.taken ≡ 0
     go true e a = eqb-true _ _ e
     go false e a = absurd (none-some _ a)
+
+-- what is left of the part and of the room from a place on
+abbrev pub left : List ℕ → ℕ → List ℕ
+left xs at = mid_of at (length xs - at) xs
+
+-- and it ends the run: that stops where it stands, at `at` of the part with `out` of the room written, and the trace is cut there if what stands
+-- there is no event
+module _ {r₀ : Running} {table₀ part room₀ : List ℕ} {r : Running} {table room : List ℕ} {at out : ℕ} (u : Sofar replaying r₀ table₀ part room₀ r table room at out) where
+  pub turn_over : {table' ys : List ℕ} → Lands (share replaying r table (left part at) (length (left room out))) (left room out) None table' ys
+      → length ys ≡ length (left room out)
+      → (none : Bool) → ((r : Running) (t : List ℕ) → none ≡ starts_none (ahead_of (item (left part at)) r t))
+      → Ran replaying r₀ table₀ part room₀ (record { taken = at; written = out; stage = cond none (Cut r.next) (Runs r) }) table' (put_mid out (length room - out) room ys)
+  turn_over l k none n = back_stopped lawful u l k none refl n

@@ -63,8 +63,13 @@ impl Kind for Replay {
 
     ghost making = { replaying };
 
+    fn is_lawful() {}
+
     // An event happens in the group, and its line is written.
     fn turn(table: &mut [u8], r: Running, part: &[u8], room: &mut [u8]) -> Option<Turn> {
+        if room.len() < text::LINE {
+            return None;
+        }
         let reader = Reader::new(part);
         let Item::Event(e) = reader.here() else {
             return None;

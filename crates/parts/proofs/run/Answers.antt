@@ -9,16 +9,16 @@ use Rattle.parts.proofs.run.Goals as goal
 pub overflow_add-at : goal.overflow_add-at
 overflow_add-at g c =
     let o = c.one in
-    omega (arith, (back_within c.requires c.loop-t.invariant o.ensures o.auto.room c.in-Some.is).0)
+    omega (arith, (back_within c.is_lawful.ensures c.loop-t.invariant o.ensures o.auto.room c.in-Some.is).0)
 
 pub loop-t-smaller : goal.loop-t-smaller
 loop-t-smaller g c =
     let o = c.one in
-    back_nearer c.requires c.loop-t.invariant o.ensures o.auto.room c.in-Some.is
+    back_nearer c.is_lawful.ensures c.loop-t.invariant o.ensures o.auto.room c.in-Some.is
 
 pub loop-t-preserved : goal.loop-t-preserved
 loop-t-preserved g c =
-    let law = c.requires in
+    let law = c.is_lawful.ensures in
     let u = c.loop-t.invariant in
     let o = c.one in
     rw (c.onward-here.ensures ∙ back_onward law u o.ensures o.auto.room c.in-Some.is) (back_again law u o.ensures o.auto.room c.in-Some.is)
@@ -26,9 +26,9 @@ loop-t-preserved g c =
 pub returns-then-starts_none : goal.returns-then-starts_none
 returns-then-starts_none g c =
     let o = c.one in
-    back_stopped c.requires c.loop-t.invariant o.ensures o.auto.room true c.in_default.is c.if-starts_none.ensures
+    back_stopped c.is_lawful.ensures c.loop-t.invariant o.ensures o.auto.room true c.in_default.is c.if-starts_none.ensures
 
 pub returns-else-starts_none : goal.returns-else-starts_none
 returns-else-starts_none g c =
     let o = c.one in
-    back_stopped c.requires c.loop-t.invariant o.ensures o.auto.room false c.in_default.is c.if-starts_none.ensures
+    back_stopped c.is_lawful.ensures c.loop-t.invariant o.ensures o.auto.room false c.in_default.is c.if-starts_none.ensures

@@ -1,16 +1,16 @@
 -- What the check leaves of the proof that `text::Pen::signals` meets its contract.
 -- Assumes nothing.
-use Rattle.std.proofs.Common.{refl}
+use Rattle.std.proofs.Common.{rules, ◌+◌, ℕ, sym, ap}
 use native.Mathlib.Omega.{arith}
-use Rattle.text.specs.Lines.{signals}
-use Rattle.text.proofs.Writing.{then, signals_more}
+use Rattle.text.proofs.Writing.{signals_length}
 use Rattle.text.proofs.Pen.signals.Goals as goal
 
-pub loop-signal-init : goal.loop-signal-init
-unfolding signals
-loop-signal-init c = record { place = omega arith; within = omega arith; room = refl; same = refl }
-
-pub loop-signal-preserved : goal.loop-signal-preserved
-loop-signal-preserved c =
-    rw (signals_more c.args.address.now c.loop-signal.signal-index c.loop-signal-test.true)
-    (then c.loop-signal.invariant (rw c.hex_digit.ensures at c.put.ensures))
+pub returns : goal.returns
+returns c =
+    let a = c.args in
+    record {
+      place = ap (λ (k : ℕ). a.self.now.at + k) (sym (signals_length a.address.now));
+      within = omega (arith, signals_length a.address.now);
+      room = c.signal_digits.ensures;
+      same = search rules;
+    }
