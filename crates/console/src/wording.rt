@@ -9,30 +9,16 @@ const ROOM: usize = 65536;
 // A line has fewer octets than this in either form. One is begun only where the room has as many left.
 const LINE: u64 = 256;
 
-// Writes a line in its named form. A comma stands between two numbers of a column. A line that begins with a letter has no columns, and is
-// the same in both forms.
+// Writes a line in its named form, column by column. A line that begins with a letter has no columns, and is the same in both forms.
 fn write_line(columns: &[Column], line: &[u8], room: &mut impl Write) -> io::Result<()> {
     if !line.first().is_some_and(|octet| octet.is_ascii_digit()) {
         return room.write_all(line);
     }
-    let numbered = line.strip_suffix(b"\n").unwrap_or(line);
-    for (i, numbers) in numbered.split(|octet| *octet == b' ').enumerate() {
-        if i > 0 {
-            room.write_all(b" ")?;
-        }
+    for (i, numbers) in line.split_inclusive(|octet| *octet == b' ').enumerate() {
         let column = columns.get(i).copied().unwrap_or(Column::Plain);
-        if column == Column::Plain {
-            room.write_all(numbers)?;
-            continue;
-        }
-        for (j, digits) in numbers.split(|octet| *octet == b',').enumerate() {
-            if j > 0 {
-                room.write_all(b",")?;
-            }
-            column.write(digits, room)?;
-        }
+        column.write(numbers, room)?;
     }
-    room.write_all(b"\n")
+    Ok(())
 }
 
 fn flush(out: &impl Print, room: &mut Cursor<[u8; ROOM]>) -> io::Result<()> {

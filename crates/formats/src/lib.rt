@@ -91,10 +91,14 @@ pub fn fixed_length(heading: u32) -> Option<usize>
     }
 }
 
-// Whether a code is spare, or is ST where more signals follow.
+// Whether a code is spare, or is ST where more signals follow. Digits are told first, since most signals are digits: by the match alone a whole
+// address can take half as long again and more.
 fn bad_code(code: u8, more: bool) -> bool
     ensures { result ≡ bad_code code more }
 {
+    if code < 10 {
+        return false;
+    }
     match code {
         ST => more,
         10 | 13 | 14 => true,

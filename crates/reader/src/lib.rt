@@ -72,7 +72,7 @@ fn half_of(octet: u8, place: usize) -> u8
 }
 
 // The address signals of an IAM, two of an octet. The loop goes by index: of what it wrote through an adapter of iter_mut a proof would know
-// nothing. Signal by signal it takes up to three times the instructions, since the compiler then makes vectors of two.
+// nothing. Signal by signal the compiler makes vectors of two, which take several times the instructions.
 fn codes_in(octets: &[u8], count: usize) -> [u8; 15]
     requires { (count ≤ 15) × (9 + half count ≤ length octets.now) }
     ensures { result ≡ over (take count (halves (drop 9 octets.now))) no_codes }
