@@ -93,7 +93,7 @@ module _ (i : Item) (r : Running) (table room : List ℕ) (out : ℕ) {table' ys
   had_in : share_at (ahead_of i r table) r table (length (left room out)) ≡ share_at (ahead_of i r table) r table (length room - out)
   had_in = ap (share_at (ahead_of i r table) r table) (mid_length room out)
 
-  stays : Stays i r table room out table' (put_mid out (length room - out) room ys)
+  pub stays : Stays i r table room out table' (put_mid out (length room - out) room ys)
   stays =
       let n = nothing_taken _ _ _ _ l in
       record {
