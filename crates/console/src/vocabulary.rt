@@ -141,7 +141,7 @@ impl Column {
     }
 
     // Writes the word for the number that digits say. A number that has no word keeps its digits.
-    fn write_word(self, digits: &[u8], room: &mut impl Write) -> io::Result<()> {
+    pub(crate) fn write(self, digits: &[u8], room: &mut impl Write) -> io::Result<()> {
         let Some(number) = self.number(digits) else {
             return room.write_all(digits);
         };
@@ -149,23 +149,5 @@ impl Column {
             return write_flags(number, room);
         }
         room.write_all(self.word(number).map_or(digits, |word| word.as_bytes()))
-    }
-
-    // Writes the words for a column's numbers, each with what stands behind it: a comma, or the blank or the line feed that ends the column. A column
-    // that has no words is written as it stands.
-    pub(crate) fn write(self, numbers: &[u8], room: &mut impl Write) -> io::Result<()> {
-        if self == Column::Plain {
-            return room.write_all(numbers);
-        }
-        for part in numbers.split_inclusive(|octet| matches!(octet, b' ' | b',' | b'\n')) {
-            match part {
-                [digits @ .., behind @ (b' ' | b',' | b'\n')] => {
-                    self.write_word(digits, room)?;
-                    room.write_all(&[*behind])?;
-                }
-                digits => self.write_word(digits, room)?,
-            }
-        }
-        Ok(())
     }
 }

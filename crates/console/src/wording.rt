@@ -9,14 +9,30 @@ const ROOM: usize = 65536;
 // A line has fewer octets than this in either form. One is begun only where the room has as many left.
 const LINE: u64 = 256;
 
+// Writes a column that has words, with the blank or the line feed that ends it. A comma stands between two numbers of a column.
+fn write_column(column: Column, text: &[u8], room: &mut impl Write) -> io::Result<()> {
+    let [numbers @ .., end] = text else {
+        return Ok(());
+    };
+    for (i, digits) in numbers.split(|octet| *octet == b',').enumerate() {
+        if i > 0 {
+            room.write_all(b",")?;
+        }
+        column.write(digits, room)?;
+    }
+    room.write_all(&[*end])
+}
+
 // Writes a line in its named form, column by column. A line that begins with a letter has no columns, and is the same in both forms.
 fn write_line(columns: &[Column], line: &[u8], room: &mut impl Write) -> io::Result<()> {
     if !line.first().is_some_and(|octet| octet.is_ascii_digit()) {
         return room.write_all(line);
     }
-    for (i, numbers) in line.split_inclusive(|octet| *octet == b' ').enumerate() {
-        let column = columns.get(i).copied().unwrap_or(Column::Plain);
-        column.write(numbers, room)?;
+    for (i, text) in line.split_inclusive(|octet| *octet == b' ').enumerate() {
+        match columns.get(i) {
+            None | Some(Column::Plain) => room.write_all(text)?,
+            Some(column) => write_column(*column, text, room)?,
+        }
     }
     Ok(())
 }

@@ -4,13 +4,14 @@ use mathlib.Core.Path.{◌≡◌, subst}
 use mathlib.Core.Bool.{Bool, false, cond}
 use Prim.Native.Nat.{ℕ, ◌≤◌}
 use mathlib.Core.List.{List}
-use borrow.Author.Tests.{ltb-false, eqb-false}
-use lib.Dec.{eqb, ltb}
+use borrow.Author.Tests.{ltb-false}
+use lib.Dec.{ltb}
 use lib.ListN.{length}
 use Rattle.circuit.proofs.Groups.{none}
 use Rattle.formats.specs.Octets.{bad_codes, above_fifteen}
 use Rattle.formats.specs.Format.{ACM, CATEGORY, INDICATORS, most}
 use Rattle.formats.specs.Messages.{format_of, has_signals}
+use Rattle.formats.proofs.Addresses as addresses
 use Rattle.formats.proofs.ByHeading.{signals_of_iam, acm_most, category_most, indicators_most}
 use Rattle.writer.specs.Writing.{Said, too_large, bad_address}
 use Rattle.writer.specs.Way.{over_limits}
@@ -56,12 +57,9 @@ module _ (m : Said) (e : too_large m ≡ false) where
 pub acm_fits : (h acm : ℕ) → h ≡ 0x14 → acm ≤ most (format_of h).fields ACM → acm ≤ 63
 acm_fits h acm e l = subst (λ (h : ℕ). acm ≤ most (format_of h).fields ACM) e l
 
--- an address that is in order
+-- an address that is in order, as it is for formats
 pub in_order : (address : List ℕ) → bad_address address ≡ false → (length address ≡ 0 → ⊥) × (length address ≤ 15) × (bad_codes address ≡ false)
-unfolding bad_address
-in_order address e =
-    let each = none false (eqb (length address) 0) (ltb 15 (length address)) (bad_codes address) e in
-    (eqb-false (length address) 0 each.1, ltb-false 15 (length address) each.2, each.3)
+in_order address e = addresses.in_order address e
 
 pub few : (address : List ℕ) → bad_address address ≡ false → length address ≤ 15
-few address e = (in_order address e).1
+few address e = addresses.few address e
